@@ -9,7 +9,6 @@ mod laws;
 mod page;
 mod program;
 mod request;
-mod selection;
 mod system;
 mod text;
 mod writing;

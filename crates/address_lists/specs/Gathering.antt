@@ -1,20 +1,12 @@
 -- The ranges of the lines of a list, before the sets are built.
-use Rattle.std.specs.Prelude.{◌≡◌, ℕ, ◌+◌, ◌≤◌, ◌++◌, All, List, false, Option, Some, length, map}
+use Rattle.std.specs.Prelude.{◌≡◌, ℕ, ◌+◌, ◌≤◌, ◌++◌, All, List, Option, Some, length}
 use Rattle.std.specs.Str.Lines.{lines}
-use Rattle.std.specs.declared.ops.RangeInclusive.{RangeInclusive}
-use Rattle.range_set_blaze.specs.Runs.{Interval, from_to, members}
+use Rattle.range_set_blaze.specs.Runs.{members}
 use Rattle.range_set_blaze.specs.Selection.{Selection}
 use Rattle.address_lists.specs.declared.list.gathered.Gathered.{Gathered}
 use Rattle.address_lists.specs.Line.{MeansV4, MeansV6}
+use Rattle.address_lists.specs.Pairs.{spans_of}
 use Rattle.address_lists.specs.List.{AreAddressesOf, IsGoodLine}
-
--- The range from the first value of a pair to the second one.
-abbrev pub range_of : {T : Type 0} → T × T → RangeInclusive T
-range_of pair = record { start = pair.0; end = pair.1; exhausted = false }
-
--- The ranks from the first value of each pair to the second one.
-abbrev pub spans_of : {T : Type 0} → (T → ℕ) → List (T × T) → List Interval
-spans_of rank pairs = map (λ pair. from_to (rank pair.0) (rank pair.1)) pairs
 
 -- The IPv4 addresses of the gathered ranges.
 abbrev pub gathered_v4 : {A : Type 0} → Gathered A → Selection

@@ -10,4 +10,6 @@ pub mod LineParts
 pub mod List
 pub mod ListFault
 pub mod Operation
+pub mod Pairs
 pub mod Plain
+pub mod Selection

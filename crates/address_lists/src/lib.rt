@@ -7,6 +7,8 @@ pub mod line;
 pub mod line_laws;
 pub mod list;
 pub mod operations;
+pub mod selection;
+pub mod set;
 pub mod text;
 
 pub use crate::blocks::{
@@ -17,6 +19,7 @@ pub use crate::list::{
     AddressList, ListFault, comments_select_nothing, list_selects_one, read_list,
 };
 pub use crate::operations::{Operation, combine};
+pub use crate::set::{AddressRanges, AddressSet};
 pub use crate::text::{
     v4_block_text, v4_range_text, v4_text, v6_block_text, v6_range_text, v6_text,
 };

@@ -60,6 +60,7 @@ pub(crate) struct FirstLine<'a> {
 }
 
 /// Returns the first line of the bytes, if they have a line feed.
+#[inline(always)]
 pub(crate) fn first_line(bytes: &[u8]) -> Option<FirstLine<'_>>
     ensures { IfSome result (λ first. BeginsWithLine (λ line. Reads first.meaning (IsLine line))
         bytes.now first.rest.now) }

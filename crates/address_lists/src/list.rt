@@ -10,10 +10,10 @@ mod gathered;
 mod laws;
 
 use crate::line::parse_line;
+use crate::set::AddressSet;
 pub use fault::ListFault;
 use gathered::{Gathered, too_many_lines};
 pub use laws::{comments_select_nothing, list_selects_one};
-use range_set_blaze::RangeSetBlaze;
 use std::alloc::{Allocator, Global};
 use std::io::BufRead;
 
@@ -21,9 +21,9 @@ use std::io::BufRead;
 #[derive(Debug, Drop)]
 pub struct AddressList<A: Allocator = Global> {
     /// The IPv4 addresses.
-    pub v4: RangeSetBlaze<u32, A>,
+    pub v4: AddressSet<u32, A>,
     /// The IPv6 addresses.
-    pub v6: RangeSetBlaze<u128, A>,
+    pub v6: AddressSet<u128, A>,
 }
 
 /// Reads a list to the end of the input, and returns the addresses that its lines mean
@@ -57,7 +57,7 @@ pub fn read_list<A: Allocator + Copy, R: BufRead>(
         // input.
         line.clear();
         if input.read_until(b'\n', &mut line)? == 0 {
-            return Ok(gathered.list(alloc)?);
+            return Ok(gathered.list());
         }
         gathered.add_line(parse_line(&line))?;
     }

@@ -1,11 +1,18 @@
 //! Operations on lists of addresses, for both families.
 
-ghost use Rattle.std.specs.Prelude.{◌≡◌, ◌^◌, IfOk, map};
+ghost use Rattle.std.specs.Prelude.{◌^◌, All, IfOk, List, map};
 ghost use Rattle.range_set_blaze.specs.Multiway.{IsMadeOf};
-ghost use Rattle.address_lists.specs.Operation.{first_only, selected_by};
+ghost use Rattle.range_set_blaze.specs.Runs.{AreRuns, Interval, members};
+ghost use Rattle.range_set_blaze.specs.Selection.{Agree, Selection};
+ghost use Rattle.rsb_streams.specs.Stream.{◌⊆◌};
+ghost use Rattle.address_lists.specs.Operation.{selected_by};
+ghost use Rattle.address_lists.specs.Selection.{GiveEach};
 
+use crate::blocks::Address;
 use crate::list::AddressList;
-use range_set_blaze::{Integer, MultiwayRangeSetBlazeRef, RangeSetBlaze};
+use crate::selection::{at_least, common, complement, except, odd, union, v4_ranges, v6_ranges};
+use crate::set::{AddressRanges, AddressSet};
+use range_set_blaze::{Draw, DrawDisjoint};
 use std::alloc::{AllocError, Allocator};
 
 /// What is selected from a number of lists. A list that is given twice counts twice.
@@ -38,74 +45,69 @@ pub fn combine<A: Allocator + Copy>(
     ensures v6 { IfOk result (λ list. IsMadeOf (2 ^ 128) (selected_by operation)
         (map (λ list. list.v6) lists.now) list.v6) }
 {
-    let v4 = combined(alloc, operation, v4_sets(alloc, lists)?)?;
-    let v6 = combined(alloc, operation, v6_sets(alloc, lists)?)?;
+    let v4_streams = v4_ranges(alloc, lists)?;
+    let v6_streams = v6_ranges(alloc, lists)?;
+    let v4 = v4_combined(alloc, operation, v4_streams)?;
+    let v6 = v6_combined(alloc, operation, v6_streams)?;
     Ok(AddressList { v4, v6 })
 }
 
-// Returns what an operation selects from the sets of one family.
-fn combined<T: Integer, A: Allocator + Copy>(
+// Returns what an operation selects from ready streams of IPv4 addresses.
+fn v4_combined<'a, A: Allocator + Copy>(
     alloc: A,
     operation: Operation,
-    sets: Vec<&RangeSetBlaze<T, A>, A>,
-) -> Result<RangeSetBlaze<T, A>, AllocError>
-    ensures { IfOk result (λ set. IsMadeOf T.value_count (selected_by operation)
-        (map (λ lent. lent.now) sets.entry.items) set) }
+    v4: Vec<AddressRanges<'a, u32>, A>,
+) -> Result<AddressSet<u32, A>, AllocError>
+    requires { All ⟦<AddressRanges<'a, u32> as Draw<u32>>⟧.can_draw v4.items }
+    ensures { (sets : List (List Interval))
+        → GiveEach ⟦<AddressRanges<'a, u32> as Draw<u32>>⟧.may_give v4.entry.items sets
+        → IfOk result (λ set. IsMadeOf (2 ^ 32) (selected_by operation) sets set) }
 {
     match operation {
-        Operation::Union => MultiwayRangeSetBlazeRef::union(sets, alloc),
-        Operation::Common => MultiwayRangeSetBlazeRef::intersection(sets, alloc),
-        Operation::Except => first_only(alloc, sets),
-        Operation::Odd => MultiwayRangeSetBlazeRef::symmetric_difference(sets, alloc),
-        Operation::AtLeast(k) => MultiwayRangeSetBlazeRef::at_least(sets, alloc, k),
-        Operation::Complement => MultiwayRangeSetBlazeRef::union(sets, alloc)?.not(),
+        Operation::Union => collected(alloc, union(alloc, v4)),
+        Operation::Common => collected(alloc, common(alloc, v4)),
+        Operation::Except => collected(alloc, except(alloc, v4)),
+        Operation::Odd => collected(alloc, odd(alloc, v4)),
+        Operation::AtLeast(k) => collected(alloc, at_least(alloc, v4, k)),
+        Operation::Complement => collected(alloc, complement(alloc, v4)),
     }
 }
 
-// Returns what the first of the sets has and none of the others.
-fn first_only<T: Integer, A: Allocator + Copy>(
+// Returns what an operation selects from ready streams of IPv6 addresses.
+fn v6_combined<'a, A: Allocator + Copy>(
     alloc: A,
-    sets: Vec<&RangeSetBlaze<T, A>, A>,
-) -> Result<RangeSetBlaze<T, A>, AllocError>
-    ensures { IfOk result (λ set. IsMadeOf T.value_count first_only
-        (map (λ lent. lent.now) sets.entry.items) set) }
+    operation: Operation,
+    v6: Vec<AddressRanges<'a, u128>, A>,
+) -> Result<AddressSet<u128, A>, AllocError>
+    requires { All ⟦<AddressRanges<'a, u128> as Draw<u128>>⟧.can_draw v6.items }
+    ensures { (sets : List (List Interval))
+        → GiveEach ⟦<AddressRanges<'a, u128> as Draw<u128>>⟧.may_give v6.entry.items sets
+        → IfOk result (λ set. IsMadeOf (2 ^ 128) (selected_by operation) sets set) }
 {
-    let mut sets = sets.into_iter();
-    let Some(first) = sets.next() else {
-        return Ok(RangeSetBlaze::new(alloc));
-    };
-    let others = MultiwayRangeSetBlazeRef::union(sets, alloc)?;
-    first.sub(&others)
+    match operation {
+        Operation::Union => collected(alloc, union(alloc, v6)),
+        Operation::Common => collected(alloc, common(alloc, v6)),
+        Operation::Except => collected(alloc, except(alloc, v6)),
+        Operation::Odd => collected(alloc, odd(alloc, v6)),
+        Operation::AtLeast(k) => collected(alloc, at_least(alloc, v6, k)),
+        Operation::Complement => collected(alloc, complement(alloc, v6)),
+    }
 }
 
-// Returns the set of IPv4 addresses of each list.
-fn v4_sets<A: Allocator>(
+// Returns the set of the addresses of a ready stream, if it was made.
+fn collected<T: Address, I: DrawDisjoint<T>, A: Allocator>(
     alloc: A,
-    lists: &[AddressList<A>],
-) -> Result<Vec<&RangeSetBlaze<u32, A>, A>, AllocError>
-    ensures { IfOk result (λ sets.
-        map (λ lent. lent.now) sets.items ≡ map (λ list. list.v4) lists.now) }
+    made: Result<I, AllocError>,
+) -> Result<AddressSet<T, A>, AllocError>
+    requires { IfOk made I.can_draw }
+    ensures { (selected : Selection)
+        → IfOk made (λ stream. I.may_give stream ⊆ AreRuns T.value_count selected)
+        → IfOk result (λ set. Agree T.value_count (members set) selected) }
 {
-    let mut sets = Vec::new(alloc);
-    for list in lists {
-        sets.push(&list.v4)?;
+    match made {
+        Ok(ranges) => AddressSet::from_ranges(alloc, ranges),
+        Err(error) => Err(error),
     }
-    Ok(sets)
-}
-
-// Returns the set of IPv6 addresses of each list.
-fn v6_sets<A: Allocator>(
-    alloc: A,
-    lists: &[AddressList<A>],
-) -> Result<Vec<&RangeSetBlaze<u128, A>, A>, AllocError>
-    ensures { IfOk result (λ sets.
-        map (λ lent. lent.now) sets.items ≡ map (λ list. list.v6) lists.now) }
-{
-    let mut sets = Vec::new(alloc);
-    for list in lists {
-        sets.push(&list.v6)?;
-    }
-    Ok(sets)
 }
 
 #[cfg(test)]

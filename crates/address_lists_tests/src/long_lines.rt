@@ -16,7 +16,7 @@ fn long_line(alloc: Global, before: &str, byte: u8, after: &str) -> Result<Vec<u
 
 /// Whether a list selects exactly the address 0.0.0.4.
 fn is_four(list: &AddressList) -> bool {
-    list.v4.len() == 1 && list.v4.contains(4) && list.v6.is_empty()
+    list.v4.len() == 1 && list.v4.contains(4) && list.v6.ranges_len() == 0
 }
 
 /// Lists whose long line is good, and that select 0.0.0.4: what comes before and after the many

@@ -32,9 +32,11 @@ fn seventy_thousand_lines_are_read(rt: HostRuntime) -> Result<(), Fail> {
     let text = long_text(rt.alloc())?;
     let mut input = text.as_slice();
     let list = read_list(rt.alloc(), &mut input)?;
-    assert!(rt; has_runs(&list, 35_000) && selects(&list, 279_997, &[0, 1, 2]));
+    assert!(rt; has_runs(&list, 35_000));
+    assert!(rt; selects(rt.alloc(), &list, 279_997, &[0, 1, 2])?);
     assert!(rt; list.v4.len() == 105_000);
-    assert!(rt; list.v4.last() == Some(279_994) && list.v6.last() == Some(279_994));
+    assert!(rt; list.v4.contains(279_994) && !list.v4.contains(279_995));
+    assert!(rt; list.v6.contains(279_994) && !list.v6.contains(279_995));
     Ok(())
 }
 

@@ -1,7 +1,7 @@
 //! Operations on lists of 70,000 runs of each family, more than 16 bits can count, and the blocks
 //! of their sets. No call gives up at a size.
 
-use address_lists::{AddressList, Block, Operation, combine, set_blocks};
+use address_lists::{AddressList, AddressSet, Block, Operation, blocks_of, combine, set_blocks};
 use range_set_blaze::RangeSetBlaze;
 use std::alloc::{AllocError, Global};
 use std::test::*;
@@ -16,7 +16,10 @@ fn many_runs(alloc: Global, first: u32) -> Result<AddressList, AllocError> {
         v4.ranges_insert(start..=end)?;
         v6.ranges_insert(u128::from(start)..=u128::from(end))?;
     }
-    Ok(AddressList { v4, v6 })
+    Ok(AddressList {
+        v4: AddressSet::from_ranges(alloc, v4.ranges())?,
+        v6: AddressSet::from_ranges(alloc, v6.ranges())?,
+    })
 }
 
 /// Whether a list has this number of runs in each family.
@@ -26,14 +29,21 @@ pub(crate) fn has_runs(list: &AddressList, count: usize) -> bool {
 
 /// Whether each eleventh address up to an end is selected exactly if the remainder of its division
 /// by 8 is one of these.
-pub(crate) fn selects(list: &AddressList, end: u32, remainders: &[u32]) -> bool {
+pub(crate) fn selects(
+    alloc: Global,
+    list: &AddressList,
+    end: u32,
+    remainders: &[u32],
+) -> Result<bool, AllocError> {
+    let v4 = RangeSetBlaze::from_sorted_disjoint(alloc, list.v4.ranges())?;
+    let v6 = RangeSetBlaze::from_sorted_disjoint(alloc, list.v6.ranges())?;
     for number in (0..end).step_by(11) {
         let wanted = remainders.contains(&(number % 8));
-        if list.v4.contains(number) != wanted || list.v6.contains(u128::from(number)) != wanted {
-            return false;
+        if v4.contains(number) != wanted || v6.contains(u128::from(number)) != wanted {
+            return Ok(false);
         }
     }
-    true
+    Ok(true)
 }
 
 /// An operation on the list of the ranges that start at 0 and the list of those that start at 2,
@@ -58,7 +68,7 @@ static COUNTED: [Row; 4] = [
 /// Whether an operation on lists selects what its row says.
 fn combines(alloc: Global, lists: &[AddressList], row: &Row) -> Result<bool, AllocError> {
     let list = combine(alloc, row.0, lists)?;
-    Ok(has_runs(&list, row.1) && selects(&list, 559_997, row.2))
+    Ok(has_runs(&list, row.1) && selects(alloc, &list, 559_997, row.2)?)
 }
 
 /// Returns the first operation that does not select what its row says.
@@ -93,6 +103,12 @@ fn is_at(block: &Block<u32>, place: u32) -> bool {
     block.first == run.saturating_add(2) && block.length == 32
 }
 
+/// Returns the IPv4 addresses of a list as a set that can change.
+fn v4_set(alloc: Global, list: &AddressList) -> Result<RangeSetBlaze<u32>, AllocError> {
+    let set = RangeSetBlaze::from_sorted_disjoint(alloc, list.v4.ranges())?;
+    Ok(set)
+}
+
 /// Whether a set of IPv4 addresses has two blocks for each run.
 fn has_two_blocks_a_run(alloc: Global, set: &RangeSetBlaze<u32>) -> Result<bool, AllocError> {
     let blocks = set_blocks(alloc, set)?;
@@ -107,8 +123,9 @@ fn has_two_blocks_a_run(alloc: Global, set: &RangeSetBlaze<u32>) -> Result<bool,
 #[test]
 fn many_runs_have_their_blocks(rt: HostRuntime) -> Result<(), Fail> {
     let list = many_runs(rt.alloc(), 0)?;
-    assert!(rt; has_two_blocks_a_run(rt.alloc(), &list.v4)?);
-    let blocks = set_blocks(rt.alloc(), &list.v6)?;
+    let set = v4_set(rt.alloc(), &list)?;
+    assert!(rt; has_two_blocks_a_run(rt.alloc(), &set)?);
+    let blocks = blocks_of(rt.alloc(), list.v6.ranges())?;
     assert!(rt; blocks.len() == 140_000);
     let last = Block {
         first: 559_994,

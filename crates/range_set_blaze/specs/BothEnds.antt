@@ -15,9 +15,9 @@ use Rattle.range_set_blaze.specs.declared.iter.Iter.{Iter}
 -- ---- one element is removed from a set
 
 -- The set without the value, if there is one.
-abbrev pub without : {T : Type 0} → (T → ℕ) → Selection → Option T → Selection
-without rank selected None = selected
-without rank selected (Some value) = difference selected (only (rank value))
+abbrev pub without_value : {T : Type 0} → (T → ℕ) → Selection → Option T → Selection
+without_value rank selected None = selected
+without_value rank selected (Some value) = difference selected (only (rank value))
 
 module _ {T : Type 0} (rank : T → ℕ) where
   -- Whether the item is the member that `IsFound` finds in the old set, and `None` exactly when
@@ -26,7 +26,7 @@ module _ {T : Type 0} (rank : T → ℕ) where
       (new : Selection) : Type 0 where
     pub none : IsNone item ↔ IsEmpty old
     pub found : IfSome item (λ value. IsFound old (rank value))
-    pub rest : (point : ℕ) → new point ≡ without rank old item point
+    pub rest : (point : ℕ) → new point ≡ without_value rank old item point
 
   -- Whether the item is the least member.
   abbrev pub TakesLeast : ℕ → Selection → Option T → Selection → Type 0
@@ -39,8 +39,8 @@ module _ {T : Type 0} (rank : T → ℕ) where
 -- ---- what is left of an iterator over the elements of a stream
 
 -- The interval of a range, or none if the range is empty.
-abbrev pub held : {T : Type 0} → (T → ℕ) → RangeInclusive T → List Interval
-held rank range = run_if_any (interval_of rank range)
+abbrev pub interval_if_any : {T : Type 0} → (T → ℕ) → RangeInclusive T → List Interval
+interval_if_any rank range = run_if_any (interval_of rank range)
 
 -- The stream, and whether it has ended.
 abbrev pub stream_of : {T I : Type 0} → Iter T I → Fused I
@@ -55,7 +55,7 @@ pub record IsWhole {T I : Type 0} (rank : T → ℕ) (ranges : I) (s : Iter T I)
 
 -- These intervals, between those held from the front and from the back.
 abbrev pub between_ends : {T I : Type 0} → (T → ℕ) → Iter T I → List Interval → List Interval
-between_ends rank s rest = held rank s.front ++ (rest ++ held rank s.back)
+between_ends rank s rest = interval_if_any rank s.front ++ (rest ++ interval_if_any rank s.back)
 
 -- Whether the runs are those held from both ends, with something between them that the stream may
 -- still give.

@@ -2,7 +2,7 @@
 use Rattle.std.specs.Prelude.{ℕ, false, ◌+◌, ◌-◌, ◌<◌, ◌≤◌, List, [], ◌∷◌, map, Option, Some, None, MatchOption, IsFalse, IsTrue}
 use Rattle.std.specs.declared.ops.RangeInclusive.{RangeInclusive}
 use Rattle.rsb_integer.specs.Runs.{Interval, from_to, members, AllEndBelow, IsCanonicalFrom}
-use Rattle.range_set_blaze.specs.Kept.{runs_of}
+use Rattle.range_set_blaze.specs.Storage.{runs_of}
 use Rattle.range_set_blaze.specs.declared.set.run.Run.{Run}
 
 -- ---- lists of runs

@@ -7,7 +7,7 @@ use Rattle.std.proofs.lemmas.Bool.{cases_lt}
 use Rattle.std.proofs.lemmas.Bool.Decides.{nat_tests}
 use Rattle.rsb_integer.specs.Runs.{Interval, members}
 use Rattle.rsb_integer.specs.Selection.{Selection, Agree}
-use Rattle.rsb_integer.proofs.CountLemmas.{count-agree}
+use Rattle.rsb_integer.proofs.lemmas.Count.{count-agree}
 use Rattle.range_set_blaze.specs.Hash.{selected_below, bounds_from, hashed_runs}
 use Rattle.range_set_blaze.specs.OrderLaws.{set_eq, same-agree}
 

@@ -2,7 +2,7 @@
 use Rattle.std.specs.Prelude.{◌≡◌, ℕ, true, false, ◌||◌, ◌+◌, ◌<◌, ◌≤◌, List, Option, MatchOption, Contains, IsTrue}
 use Rattle.rsb_integer.specs.Runs.{Interval, covers, members, IsCanonicalIn}
 use Rattle.rsb_integer.specs.Selection.{Selection, count, LacksSome}
-use Rattle.range_set_blaze.specs.Kept.{run_of, IsKept}
+use Rattle.range_set_blaze.specs.Storage.{run_of, IsKept}
 use Rattle.range_set_blaze.specs.Set.{Adds}
 use Rattle.range_set_blaze.specs.Starts.{with_run}
 use Rattle.range_set_blaze.specs.declared.set.run.Run.{Run}
@@ -81,8 +81,8 @@ module _ {T : Type 0} (rank : T → ℕ) (n : ℕ) (runs : List Interval) where
 -- ---- what an insertion does
 
 -- Whether every selected rank is a member.
-abbrev pub Has : List Interval → Selection → Type 0
-Has set selected = (rank : ℕ) → IsTrue (selected rank) → IsTrue (members set rank)
+abbrev pub HasAll : List Interval → Selection → Type 0
+HasAll set selected = (rank : ℕ) → IsTrue (selected rank) → IsTrue (members set rank)
 
 -- Whether the new runs and the length represent a set: the members of the old runs, and those of the
 -- added one. Some rank of that run was not a member before.

@@ -7,7 +7,6 @@ pub mod GapsIn
 pub mod Hash
 pub mod HashLaws
 pub mod Joining
-pub mod Kept
 pub mod Lent
 pub mod Multiway
 pub mod NumberLaws
@@ -23,6 +22,7 @@ pub mod Set
 pub mod Singles
 pub mod Split
 pub mod Starts
+pub mod Storage
 pub mod Text
 pub mod Windows
 pub mod Written

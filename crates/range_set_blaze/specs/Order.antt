@@ -14,9 +14,10 @@ use Rattle.rsb_integer.specs.Selection.{Selection, Agree, exclusive_or}
 -- be 2 ^ 128.
 
 -- Whether the two sets agree at every rank below n.
-unfoldable pub same : ℕ → Selection → Selection → Bool
-same zero left right = true
-same (suc n) left right = cond (exclusive_or (left n) (right n)) false (same n left right)
+unfoldable pub agree_below : ℕ → Selection → Selection → Bool
+agree_below zero left right = true
+agree_below (suc n) left right =
+    cond (exclusive_or (left n) (right n)) false (agree_below n left right)
 
 -- The selected ranks among the given number of ranks from `low` on, in ascending order.
 unfoldable pub elements_from : ℕ → ℕ → Selection → List ℕ

@@ -11,7 +11,7 @@ use Rattle.std.proofs.lemmas.Bool.{cases_lt}
 use Rattle.std.proofs.lemmas.Bool.Decides.{nat_tests}
 use Rattle.rsb_integer.specs.Runs.{Interval, members}
 use Rattle.rsb_integer.specs.Selection.{Selection, Agree, exclusive_or}
-use Rattle.range_set_blaze.specs.Order.{same, elements_from, order, DiffersAt, HasLater, IsLess, HasOrder}
+use Rattle.range_set_blaze.specs.Order.{agree_below, elements_from, order, DiffersAt, HasLater, IsLess, HasOrder}
 
 -- ---- tests
 
@@ -64,19 +64,21 @@ agree-more n left right below here rank within = elim (cases_lt rank n) [
 ]
 
 -- `same` is true of sets that agree.
-pub agree-same : (n : ℕ) (left right : Selection) → Agree n left right → same n left right ≡ true
-unfolding same
+pub agree-same : (n : ℕ) (left right : Selection) → Agree n left right
+    → agree_below n left right ≡ true
+unfolding agree_below
 agree-same zero left right all = refl
 agree-same (suc n) left right all =
     rw (all n (omega arith), exclusive-self)
     (agree-same n left right (λ rank below. all rank (omega arith)))
 
 -- `same` is true only of sets that agree.
-pub same-agree : (n : ℕ) (left right : Selection) → same n left right ≡ true → Agree n left right
-unfolding same
+pub same-agree : (n : ℕ) (left right : Selection) → agree_below n left right ≡ true
+    → Agree n left right
+unfolding agree_below
 same-agree zero left right is = λ rank below. absurd (omega arith)
 same-agree (suc n) left right is =
-    let parts = cond-false (exclusive_or (left n) (right n)) (same n left right) is in
+    let parts = cond-false (exclusive_or (left n) (right n)) (agree_below n left right) is in
     agree-more n left right (same-agree n left right parts.1)
     (exclusive-same (left n) (right n) parts.0)
 
@@ -206,7 +208,7 @@ less-not n left right (inr less) all =
 equal-agree : (n : ℕ) (left right : Selection) (ordering : Ordering) → HasOrder n left right ordering
     → Agree n left right → is_eq ordering ≡ true
 equal-agree n left right Less less all = absurd (less-not n left right less all)
-equal-agree n left right Equal same all = refl
+equal-agree n left right Equal agree_below all = refl
 equal-agree n left right Greater less all =
     absurd (less-not n right left less (λ rank below. sym (all rank below)))
 
@@ -214,13 +216,13 @@ equal-agree n left right Greater less all =
 agree-equal : (n : ℕ) (left right : Selection) (ordering : Ordering) → HasOrder n left right ordering
     → is_eq ordering ≡ true → Agree n left right
 agree-equal n left right Less less is = absurd (cc)
-agree-equal n left right Equal same is = same
+agree-equal n left right Equal agree_below is = agree_below
 agree-equal n left right Greater less is = absurd (cc)
 
 -- `==` is true exactly when `cmp` returns `Equal`.
 pub same-order : (n : ℕ) (left right : Selection)
-    → same n left right ≡ eq_by_cmp (order n) left right
-same-order n left right = both_ways (same n left right) (is_eq (order n left right))
+    → agree_below n left right ≡ eq_by_cmp (order n) left right
+same-order n left right = both_ways (agree_below n left right) (is_eq (order n left right))
     (λ is. equal-agree n left right (order n left right) (order-holds n left right)
     (same-agree n left right is))
     (λ is. agree-same n left right
@@ -231,7 +233,7 @@ same-order n left right = both_ways (same n left right) (is_eq (order n left rig
 module _ (n : ℕ) where
   -- What `==` returns.
   abbrev pub set_eq : List Interval → List Interval → Bool
-  set_eq left right = same n (members left) (members right)
+  set_eq left right = agree_below n (members left) (members right)
 
   -- What `cmp` returns.
   abbrev pub set_cmp : List Interval → List Interval → Ordering

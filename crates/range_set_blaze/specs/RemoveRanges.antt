@@ -2,7 +2,7 @@
 use Rattle.std.specs.Prelude.{◌≡◌, ℕ, ◌+◌, ◌<◌, ◌≤◌, max, min, List, IsTrue, IsFalse}
 use Rattle.rsb_integer.specs.Runs.{Interval, covers, members}
 use Rattle.rsb_integer.specs.Selection.{Selection}
-use Rattle.range_set_blaze.specs.Kept.{IsKept}
+use Rattle.range_set_blaze.specs.Storage.{IsKept}
 use Rattle.range_set_blaze.specs.Starts.{IsLastBelow}
 
 -- Whether the set has one of the ranks.

@@ -9,7 +9,7 @@ use Rattle.rsb_integer.specs.Prefix.{IsPrefix}
 use Rattle.rsb_integer.specs.Rank.{interval_of, intervals_of}
 use Rattle.rsb_integer.specs.Runs.{Interval, covers, from_to, length_of, members, IsMaximalRun}
 use Rattle.rsb_integer.specs.Selection.{Selection}
-use Rattle.range_set_blaze.specs.Kept.{run_of, runs_of}
+use Rattle.range_set_blaze.specs.Storage.{run_of, runs_of}
 use Rattle.range_set_blaze.specs.declared.set.run.Run.{Run}
 
 -- The given number of consecutive ranks, starting at `first`.

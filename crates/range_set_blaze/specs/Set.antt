@@ -25,13 +25,14 @@ past_rank rank n (Excluded value) = rank value
 past_rank rank n Unbounded = n
 
 -- The ranks between two bounds, in a type of n values.
-abbrev pub between : {T : Type 0} → (T → ℕ) → ℕ → Bound T → Bound T → Selection
-between rank n start end other = nat_le (first_rank rank start) other && nat_lt other
+abbrev pub ranks_between : {T : Type 0} → (T → ℕ) → ℕ → Bound T → Bound T → Selection
+ranks_between rank n start end other = nat_le (first_rank rank start) other && nat_lt other
     (past_rank rank n end)
 
 -- The ranks between the bounds of a range, in a type of n values.
 abbrev pub ranks_in : {T R : Type 0} → (T → ℕ) → ℕ → (R → Bound T) → (R → Bound T) → R → Selection
-ranks_in rank n start_bound end_bound range = between rank n (start_bound range) (end_bound range)
+ranks_in rank n start_bound end_bound range =
+    ranks_between rank n (start_bound range) (end_bound range)
 
 -- ---- sets before and after a call
 

@@ -3,34 +3,34 @@ use Rattle.std.specs.Prelude.{◌≡◌, ℕ, Bool, true, false, not, ◌||◌, 
 use Rattle.std.specs.List.{filter}
 use Rattle.rsb_integer.specs.Runs.{Interval, covers, length_of, members, IsCanonicalIn}
 use Rattle.rsb_integer.specs.Selection.{count}
-use Rattle.range_set_blaze.specs.Kept.{run_of}
+use Rattle.range_set_blaze.specs.Storage.{run_of}
 use Rattle.range_set_blaze.specs.declared.set.run.Run.{Run}
 
 -- ---- parts of a list, by starts
 
 -- The runs whose starts pass a test.
-abbrev pub starting : (ℕ → Bool) → List Interval → List Interval
-starting test runs = filter (λ run. test run.first) runs
+abbrev pub runs_starting : (ℕ → Bool) → List Interval → List Interval
+runs_starting test runs = filter (λ run. test run.first) runs
 
 -- The runs that start below the rank.
-abbrev pub below : ℕ → List Interval → List Interval
-below rank runs = starting (λ start. nat_lt start rank) runs
+abbrev pub runs_below : ℕ → List Interval → List Interval
+runs_below rank runs = runs_starting (λ start. nat_lt start rank) runs
 
 -- The runs that start past the rank.
-abbrev pub past : ℕ → List Interval → List Interval
-past rank runs = starting (λ start. nat_lt rank start) runs
+abbrev pub runs_past : ℕ → List Interval → List Interval
+runs_past rank runs = runs_starting (λ start. nat_lt rank start) runs
 
 -- The runs that start at the rank or past it.
 abbrev pub starting_from : ℕ → List Interval → List Interval
-starting_from rank runs = starting (λ start. nat_le rank start) runs
+starting_from rank runs = runs_starting (λ start. nat_le rank start) runs
 
 -- The runs that do not start at the rank.
 abbrev pub without_start : ℕ → List Interval → List Interval
-without_start rank runs = starting (λ start. not (start == rank)) runs
+without_start rank runs = runs_starting (λ start. not (start == rank)) runs
 
 -- The runs with one more inserted where its start belongs. It replaces any run with the same start.
 abbrev pub with_run : Interval → List Interval → List Interval
-with_run run runs = below run.first runs ++ run ∷ past run.first runs
+with_run run runs = runs_below run.first runs ++ run ∷ runs_past run.first runs
 
 -- Whether the starts ascend strictly, from `low` or later, and are below n.
 abbrev pub StartsAscendFrom : ℕ → ℕ → List Interval → Type 0

@@ -15,7 +15,7 @@
 use Rattle.std.specs.Prelude.{◌≡◌, ℕ, ℤ, pos, neg_ℤ, Bool, true, false, cond, ◌==◌, ◌||◌, ◌⊎◌, ◌+◌, ◌*◌, ◌<◌, ◌≤◌, ◌++◌, List, [], ◌∷◌, IsTrue, length, take, unsigned_abs}
 use Rattle.std.specs.Char.{digit_value}
 use Rattle.std.specs.declared.ops.RangeInclusive.{RangeInclusive}
-use Rattle.range_set_blaze.specs.Kept.{range_of}
+use Rattle.range_set_blaze.specs.Storage.{range_of}
 
 -- ---- bytes
 

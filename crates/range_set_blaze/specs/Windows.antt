@@ -2,8 +2,8 @@
 use Rattle.std.specs.Prelude.{◌≡◌, ℕ, ◌&&◌, cond, false, min, nat_le, nat_lt, ◌<◌, ◌≤◌, List, ◌∷◌, map, Option, Some, None, Contains}
 use Rattle.std.specs.declared.ops.RangeInclusive.{RangeInclusive}
 use Rattle.rsb_integer.specs.Runs.{Interval, from_to, members, IsCanonicalIn}
-use Rattle.range_set_blaze.specs.Kept.{entry_of}
-use Rattle.range_set_blaze.specs.Starts.{starting}
+use Rattle.range_set_blaze.specs.Storage.{entry_of}
+use Rattle.range_set_blaze.specs.Starts.{runs_starting}
 use Rattle.range_set_blaze.specs.declared.set.run.Run.{Run}
 
 -- ---- how a window is stored
@@ -35,7 +35,8 @@ up_to last run = from_to run.first (min run.last last)
 
 -- The runs that start between the two ranks, both included.
 abbrev pub starting_within : ℕ → ℕ → List Interval → List Interval
-starting_within first last runs = starting (λ start. nat_le first start && nat_le start last) runs
+starting_within first last runs =
+    runs_starting (λ start. nat_le first start && nat_le start last) runs
 
 -- Whether `part` has the ranks, at or above `point`, of a run that starts below `point` and
 -- contains it.

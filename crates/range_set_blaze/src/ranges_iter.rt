@@ -24,7 +24,7 @@ pub struct RangesIter<'a, T: Integer> {
 impl<'a, T: Integer> Model for RangesIter<'a, T> {
     ghost use Rattle.std.specs.Prelude.{List};
     ghost use Rattle.std.specs.declared.ops.RangeInclusive.{RangeInclusive};
-    ghost use Rattle.range_set_blaze.specs.Kept.{ranges_of};
+    ghost use Rattle.range_set_blaze.specs.Storage.{ranges_of};
 
     ghost Value = { List (RangeInclusive T) };
 

@@ -11,13 +11,12 @@ ghost use Rattle.range_set_blaze.specs.Set.{IsGreatest, IsLeast};
 mod algebra;
 mod apart;
 mod assign;
-mod bulk;
 mod collect;
 pub(crate) mod elements;
 pub(crate) mod entries;
 mod extend;
-mod fill;
 mod first_fit;
+mod from_stream;
 mod gaps;
 pub(crate) mod hash;
 mod in_order;
@@ -66,7 +65,7 @@ pub struct RangeSetBlaze<T: Integer, A: Allocator = Global> {
 impl<T: Integer, A: Allocator> Model for RangeSetBlaze<T, A> {
     ghost use Rattle.std.specs.Prelude.{List};
     ghost use Rattle.rsb_integer.specs.Runs.{Interval};
-    ghost use Rattle.range_set_blaze.specs.Kept.{IsKept};
+    ghost use Rattle.range_set_blaze.specs.Storage.{IsKept};
 
     ghost Value = { List Interval };
 

@@ -36,10 +36,10 @@ Succeeds status = status < 2
 -- ---- what a comparison of two sets returns
 
 -- The order that a negative number, 0 or a positive number stands for.
-abbrev pub order_told : ℤ → Ordering
-order_told (negsuc n) = Less
-order_told (pos zero) = Equal
-order_told (pos (suc n)) = Greater
+abbrev pub order_of_number : ℤ → Ordering
+order_of_number (negsuc n) = Less
+order_of_number (pos zero) = Equal
+order_of_number (pos (suc n)) = Greater
 
 -- Whether the number is one that exports return for an order: -1, 0 or 1.
 abbrev pub IsOrderNumber : ℤ → Type 0

@@ -30,7 +30,7 @@ pub record StopsForMemory (commands : List (Command ℤ)) (replies : List (Conte
 
 -- Whether the text of the replies to the commands that the input spells was written, and nothing
 -- else.
-pub record Answers (input : List ℕ) (old new : Option (List ℕ)) : Type 0 where
+pub record WritesReplies (input : List ℕ) (old new : Option (List ℕ)) : Type 0 where
   pub commands : List (Command ℤ)
   pub spelled : AreCommands input commands
   pub replies : List (Content ℤ)

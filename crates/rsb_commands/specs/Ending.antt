@@ -6,7 +6,7 @@ use Rattle.rsb_parser.specs.declared.fault.Fault.TheVariants.{BadLine, NoMemory,
 use Rattle.rsb_parser.specs.Fault.{fault_line, status_of}
 use Rattle.rsb_parser.specs.Input.{HasBytes}
 use Rattle.rsb_parser.specs.Spelling.{IsFirstBadLine}
-use Rattle.rsb_commands.specs.Answer.{Answers, KeepsWithoutCommands, WroteFirstReplies, WrotePartOfReplies}
+use Rattle.rsb_commands.specs.Answer.{WritesReplies, KeepsWithoutCommands, WroteFirstReplies, WrotePartOfReplies}
 use Rattle.rsb_commands.specs.Transfer.{AppendsPrefixOf}
 
 -- What is left of the input, and what was written to the output and to the error output, if known.
@@ -34,7 +34,7 @@ TellsFault old new outcome = MatchResult outcome
 -- What was read and written if the program ends with this outcome.
 abbrev pub Leaves : Channels → Channels → Result (Unit {0}) Fault → Type 0
 Leaves before after (Ok done) =
-    IsAtEnd after.input × IfSome before.input (λ bytes. Answers bytes before.output after.output)
+    IsAtEnd after.input × IfSome before.input (λ bytes. WritesReplies bytes before.output after.output)
 Leaves before after (Err (BadLine number)) =
     IfSome before.input (λ bytes. IsFirstBadLine bytes number) × Keeps before.output after.output
 Leaves before after (Err NoMemory) =
@@ -43,7 +43,7 @@ Leaves before after (Err Io) = WrotePartOfReplies before.input before.output aft
 
 -- Whether the program ended with this status, and read and wrote what belongs to one outcome with
 -- that status.
-pub record Ends (before after : Channels) (status : ℕ) : Type 0 where
+pub record ProgramEnds (before after : Channels) (status : ℕ) : Type 0 where
   pub outcome : Result (Unit {0}) Fault
   pub status_is : status ≡ status_after outcome
   pub told : TellsFault before.errors after.errors outcome

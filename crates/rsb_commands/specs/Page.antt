@@ -8,24 +8,24 @@ use Rattle.rsb_commands.specs.declared.page.Page.{Page}
 use Rattle.rsb_commands.specs.Transfer.{AppendsShortOf}
 
 -- The text that waits on the page.
-abbrev pub waiting : {W : Type 0} → Page W → List ℕ
-waiting page = page.text.items
+abbrev pub waiting_text : {W : Type 0} → Page W → List ℕ
+waiting_text page = page.text.items
 
 -- Whether the text was added after what waited, with the writer unchanged.
 pub record Waits {W : Type 0} (old new : Page W) (text : List ℕ) : Type 0 where
-  pub waits : waiting new ≡ waiting old ++ text
+  pub waits : waiting_text new ≡ waiting_text old ++ text
   pub same_output : new.output ≡ old.output
 
 module _ {W : Type 0} (contents : W → Option (List ℕ)) where
   -- What the writer has, if it is known.
-  abbrev pub sent : Page W → Option (List ℕ)
-  sent page = contents page.output.now
+  abbrev pub sent_bytes : Page W → Option (List ℕ)
+  sent_bytes page = contents page.output.now
 
   -- Whether a prefix of what waited and the added text was written, and the rest waits.
   pub record Laid (old new : Page W) (text : List ℕ) : Type 0 where
     pub front : List ℕ
-    pub parts : waiting old ++ text ≡ front ++ waiting new
-    pub written : Appends (sent old) (sent new) front
+    pub parts : waiting_text old ++ text ≡ front ++ waiting_text new
+    pub written : Appends (sent_bytes old) (sent_bytes new) front
 
   -- Whether the text was added after what waited. If a write failed, only a shorter prefix of what
   -- waited and the text was written.
@@ -34,4 +34,5 @@ module _ {W : Type 0} (contents : W → Option (List ℕ)) where
       pub same_output : new.output.ghost_name ≡ old.output.ghost_name
       pub laid : MatchResult result
           (λ _. Laid old new text)
-          (λ fault. (fault ≡ Io) × AppendsShortOf (sent old) (sent new) (waiting old ++ text))
+          (λ fault. (fault ≡ Io) × AppendsShortOf (sent_bytes old) (sent_bytes new)
+          (waiting_text old ++ text))

@@ -1,7 +1,7 @@
 //! Text that is buffered before it is written (docs/DECISIONS.md, page).
 
 ghost use Rattle.std.specs.Prelude.{◌≡◌, ◌+◌, ◌≤◌, [], length, OnOk};
-ghost use Rattle.rsb_commands.specs.Page.{Lays, Waits, waiting};
+ghost use Rattle.rsb_commands.specs.Page.{Lays, Waits, waiting_text};
 
 use crate::transfer::write_all;
 use arrayvec::ArrayVec;
@@ -29,7 +29,7 @@ impl<'a, W: Write> Page<'a, W> {
     /// times in total, over all of its writes.
     pub(crate) fn new(output: &'a mut W) -> Page<'a, W>
         ensures output { result.output ≡ output.entry }
-        ensures empty { waiting result ≡ [] }
+        ensures empty { waiting_text result ≡ [] }
     {
         Page {
             output,
@@ -41,7 +41,7 @@ impl<'a, W: Write> Page<'a, W> {
     /// Appends to the text that waits. There must be room for the new text.
     #[inline(always)]
     pub(crate) fn lay(&mut self, text: &[u8])
-        requires { length (waiting self.old) + length text.now ≤ PAGE }
+        requires { length (waiting_text self.old) + length text.now ≤ PAGE }
         ensures { Waits self.old self.new text.now }
     {
         self.text.try_extend_from_slice(text).unwrap();
@@ -51,7 +51,7 @@ impl<'a, W: Write> Page<'a, W> {
     #[inline(always)]
     pub(crate) fn make_room(&mut self) -> Result<(), Fault>
         ensures laid { Lays W.contents self.old self.new result [] }
-        ensures room { OnOk result (length (waiting self.new) + ROOM ≤ PAGE) }
+        ensures room { OnOk result (length (waiting_text self.new) + ROOM ≤ PAGE) }
     {
         if self.text.remaining_capacity() < ROOM {
             return self.send();
@@ -62,7 +62,7 @@ impl<'a, W: Write> Page<'a, W> {
     /// Writes the text that waits.
     pub(crate) fn send(&mut self) -> Result<(), Fault>
         ensures laid { Lays W.contents self.old self.new result [] }
-        ensures empty { OnOk result (waiting self.new ≡ []) }
+        ensures empty { OnOk result (waiting_text self.new ≡ []) }
     {
         let patience = self.patience;
         self.patience = write_all(self.output, self.text.as_slice(), patience)?;

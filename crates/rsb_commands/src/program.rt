@@ -5,10 +5,10 @@ ghost use Rattle.std.specs.Io.KnownBytes.{IsAtEnd, Keeps};
 ghost use Rattle.std.specs.Process.{exit_status};
 ghost use Rattle.rsb_parser.specs.Input.{HasBytes};
 ghost use Rattle.rsb_parser.specs.Spelling.{IsFirstBadLine};
-ghost use Rattle.rsb_commands.specs.Answer.{Answers, AreNumberReplies, KeepsWithoutCommands, Replies, StopsForMemory, WroteFirstReplies, WrotePartOfReplies};
+ghost use Rattle.rsb_commands.specs.Answer.{WritesReplies, AreNumberReplies, KeepsWithoutCommands, Replies, StopsForMemory, WroteFirstReplies, WrotePartOfReplies};
 ghost use Rattle.rsb_commands.specs.Interpreter.{Content};
-ghost use Rattle.rsb_commands.specs.Ending.{Ends, TellsFault, channels, status_after};
-ghost use Rattle.rsb_commands.specs.Page.{sent, waiting};
+ghost use Rattle.rsb_commands.specs.Ending.{ProgramEnds, TellsFault, channels, status_after};
+ghost use Rattle.rsb_commands.specs.Page.{sent_bytes, waiting_text};
 ghost use Rattle.rsb_commands.specs.Text.{text};
 ghost use Rattle.rsb_commands.specs.Transfer.{AppendsShortOf};
 
@@ -28,7 +28,7 @@ pub fn start<A: Allocator + Copy, R: Read, W: Write, E: Write>(
     output: &mut W,
     errors: &mut E,
 ) -> ExitCode
-    ensures { Ends
+    ensures { ProgramEnds
         (channels (R.remaining input.old) (W.contents output.old) (E.contents errors.old))
         (channels (R.remaining input.new) (W.contents output.new) (E.contents errors.new))
         (exit_status result) }
@@ -67,7 +67,7 @@ pub fn run<A: Allocator + Copy, R: Read, W: Write>(
 ) -> Result<(), Fault>
     ensures end { OnOk result (IsAtEnd (R.remaining input.new)) }
     ensures answers { OnOk result (IfSome (R.remaining input.old) (λ bytes.
-        Answers bytes (W.contents output.old) (W.contents output.new))) }
+        WritesReplies bytes (W.contents output.old) (W.contents output.new))) }
 
     // After a bad line nothing was written.
     ensures bad_line { (number : ℕ) → result ≡ Err (Fault.BadLine number)
@@ -100,17 +100,18 @@ fn answer<A: Allocator + Copy, W: Write>(
     commands: &[Command<i32>],
     page: &mut Page<'_, W>,
 ) -> Result<(), Fault>
-    requires { waiting page.old ≡ [] }
+    requires { waiting_text page.old ≡ [] }
     ensures same_output { page.new.output.ghost_name ≡ page.old.output.ghost_name }
     ensures ok { OnOk result
-        (Replies commands.now (sent W.contents page.old) (sent W.contents page.new)) }
+        (Replies commands.now (sent_bytes W.contents page.old) (sent_bytes W.contents page.new)) }
     ensures no_bad_line { (number : ℕ) → result ≢ Err (Fault.BadLine number) }
     ensures no_memory { result ≡ Err Fault.NoMemory → (replies : List (Content ℤ))
         → AreNumberReplies commands.now replies → StopsForMemory commands.now replies
-        (sent W.contents page.old) (sent W.contents page.new) }
+        (sent_bytes W.contents page.old) (sent_bytes W.contents page.new) }
     ensures io { result ≡ Err Fault.Io → (replies : List (Content ℤ))
         → AreNumberReplies commands.now replies
-        → AppendsShortOf (sent W.contents page.old) (sent W.contents page.new) (text replies) }
+        → AppendsShortOf (sent_bytes W.contents page.old) (sent_bytes W.contents page.new)
+        (text replies) }
     ensures some { result ≡ Err Fault.NoMemory → 0 < length commands.now }
 {
     if commands.is_empty() {

@@ -4,7 +4,7 @@ ghost use Rattle.std.specs.Prelude.{◌≡◌, ◌+◌, ◌≤◌, ◌++◌, IfS
 ghost use Rattle.std.specs.Fmt.{signed_decimal};
 ghost use Rattle.rsb_parser.specs.Fault.{fault_line};
 ghost use Rattle.rsb_commands.specs.Interpreter.{content_of, flag as flag_content, number as number_content, order as order_content, piece as piece_content, ranges as ranges_content, runs as runs_content};
-ghost use Rattle.rsb_commands.specs.Page.{Lays, Waits, waiting};
+ghost use Rattle.rsb_commands.specs.Page.{Lays, Waits, waiting_text};
 ghost use Rattle.rsb_commands.specs.Text.{ends_text, line_text, next_range_text, range_text, ranges_text};
 ghost use Rattle.rsb_commands.specs.Transfer.{Writes};
 
@@ -57,7 +57,7 @@ fn write_flag<W: Write>(page: &mut Page<'_, W>, flag: bool) -> Result<(), Fault>
 // length, so it is copied without a call.
 #[inline(always)]
 fn lay_flag<W: Write>(page: &mut Page<'_, W>, flag: bool)
-    requires { length (waiting page.old) + 6 ≤ PAGE }
+    requires { length (waiting_text page.old) + 6 ≤ PAGE }
     ensures { Waits page.old page.new (line_text (flag_content flag)) }
 {
     if flag {
@@ -208,7 +208,7 @@ fn write_ends<W: Write>(page: &mut Page<'_, W>, start: &i32, end: &i32) -> Resul
 
 // Adds a range, for which there must be room.
 fn lay_range<W: Write>(page: &mut Page<'_, W>, range: &RangeInclusive<i32>)
-    requires { length (waiting page.old) + 25 ≤ PAGE }
+    requires { length (waiting_text page.old) + 25 ≤ PAGE }
     ensures { Waits page.old page.new (range_text range.now) }
 {
     lay_ends(page, range.start(), range.end());
@@ -216,7 +216,7 @@ fn lay_range<W: Write>(page: &mut Page<'_, W>, range: &RangeInclusive<i32>)
 
 // Adds two numbers with `..=` between them. There must be room for them.
 fn lay_ends<W: Write>(page: &mut Page<'_, W>, start: &i32, end: &i32)
-    requires { length (waiting page.old) + 25 ≤ PAGE }
+    requires { length (waiting_text page.old) + 25 ≤ PAGE }
     ensures { Waits page.old page.new (ends_text start.now end.now) }
 {
     lay_number(page, start);
@@ -226,9 +226,9 @@ fn lay_ends<W: Write>(page: &mut Page<'_, W>, start: &i32, end: &i32)
 
 // Adds a number, for which there must be room.
 fn lay_number<W: Write>(page: &mut Page<'_, W>, number: &i32)
-    requires { length (waiting page.old) + 11 ≤ PAGE }
+    requires { length (waiting_text page.old) + 11 ≤ PAGE }
     ensures laid { Waits page.old page.new (signed_decimal number.now) }
-    ensures within { length (waiting page.new) ≤ length (waiting page.old) + 11 }
+    ensures within { length (waiting_text page.new) ≤ length (waiting_text page.old) + 11 }
 {
     page.lay(Buffer::new().format(*number).as_bytes());
 }

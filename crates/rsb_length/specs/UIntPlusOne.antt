@@ -16,12 +16,12 @@ use Rattle.rsb_length.specs.declared.uint_plus_one.UIntPlusOne.TheVariants.{UInt
 -- does. Then the derived `==`, which distinguishes the two, would not be equality of numbers. So
 -- `UInt` of a number past the limit represents the next number, and only `MaxPlusOne` represents
 -- limit + 1.
-abbrev pub stretched : ℕ → ℕ → ℕ
-stretched limit n = cond (nat_le n limit) n (n + 1)
+abbrev pub uint_number : ℕ → ℕ → ℕ
+uint_number limit n = cond (nat_le n limit) n (n + 1)
 
 -- The number that a `UIntPlusOne` represents.
 abbrev pub number_of : {T : Type 0} → (T → ℕ) → ℕ → UIntPlusOne T → ℕ
-number_of number limit (UInt value) = stretched limit (number value)
+number_of number limit (UInt value) = uint_number limit (number value)
 number_of number limit MaxPlusOne = limit + 1
 
 -- The `UIntPlusOne` that represents a number: `MaxPlusOne` for every number past the limit.
@@ -46,15 +46,15 @@ IsUpTo-between n (pos j) (negsuc m) z f g low high = absurd (omega (arith, ints)
 IsUpTo-between n (negsuc j) (negsuc m) z f g low high = absurd f
 
 -- `UInt` of a number within the limit represents that number.
-pub stretched-within : (limit n m : ℕ) → n ≡ m → m ≤ limit → stretched limit n ≡ m
+pub stretched-within : (limit n m : ℕ) → n ≡ m → m ≤ limit → uint_number limit n ≡ m
 stretched-within limit n m e h = grind (arith, nat_tests)
 
 -- If `UInt` of two numbers represents the same number, the two are equal.
-pub stretched-same : (limit m n : ℕ) → stretched limit m ≡ stretched limit n → m ≡ n
+pub stretched-same : (limit m n : ℕ) → uint_number limit m ≡ uint_number limit n → m ≡ n
 stretched-same limit m n e = grind (arith, nat_tests)
 
 -- No `UInt` represents the number one past the limit.
-pub stretched-not_past : (limit n : ℕ) → stretched limit n ≢ limit + 1
+pub stretched-not_past : (limit n : ℕ) → uint_number limit n ≢ limit + 1
 stretched-not_past limit n e = grind (arith, nat_tests)
 
 -- `same` behaves as the derived `==`. It compares two `UInt`s by `equal`, which is true exactly for
@@ -71,7 +71,7 @@ module _ {T : Type 0} (number : T → ℕ) (limit : ℕ) (equal : T → T → Bo
     pub same-number_of : (x y : UIntPlusOne T)
         → IsTrue (same x y) ↔ (number_of number limit x ≡ number_of number limit y)
     same-number_of (UInt a) (UInt b) = (
-      (λ h. ap (stretched limit) ((by_number a b).0 (sym (of_values a b) ∙ h))),
+      (λ h. ap (uint_number limit) ((by_number a b).0 (sym (of_values a b) ∙ h))),
       (λ h. of_values a b ∙ (by_number a b).1 (stretched-same limit (number a) (number b) h)),
     )
     same-number_of (UInt a) MaxPlusOne = (
@@ -85,7 +85,7 @@ module _ {T : Type 0} (number : T → ℕ) (limit : ℕ) (equal : T → T → Bo
     same-number_of MaxPlusOne MaxPlusOne = ((λ h. refl), (λ h. of_past))
 
 -- If `UInt` of n represents at most limit + 1, then n is within the limit.
-stretched-limited : (limit n : ℕ) → stretched limit n ≤ limit + 1 → n ≤ limit
+stretched-limited : (limit n : ℕ) → uint_number limit n ≤ limit + 1 → n ≤ limit
 stretched-limited limit n h = grind (arith, nat_tests)
 
 -- The test `nat_le` is true of each number within the limit, and false of the one after the limit.

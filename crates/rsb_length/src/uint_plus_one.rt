@@ -147,7 +147,7 @@ impl<T: UInt> Mul for UIntPlusOne<T> {
     ghost mul_gives = { λ a b product. number_of T.number T.limit product
         ≡ number_of T.number T.limit a * number_of T.number T.limit b };
 
-    #[tactic(auto, using(crate::proofs::UIntPlusOneLemmas::stretched_product))]
+    #[tactic(auto, using(crate::proofs::lemmas::UIntPlusOne::stretched_product))]
     fn mul(self, rhs: Self) -> Self {
         match (self, rhs) {
             (Self::UInt(a), Self::UInt(b)) => match a.checked_product(b) {

@@ -6,7 +6,7 @@ use Rattle.rsb_integer.specs.declared.integer.Integer.{Ghosts as Elements}
 use Rattle.rsb_streams.specs.Lookahead.{Uses}
 use Rattle.rsb_streams.specs.Stream.{◌⊆◌}
 use Rattle.rsb_streams.specs.declared.draw.Draw.{Ghosts as Stream}
-use Rattle.rsb_many.specs.Heads.{binary_digits, closing, started, TakesLeastHead}
+use Rattle.rsb_many.specs.Heads.{binary_digits, closing_bound, head_at_end, TakesLeastHead}
 use Rattle.rsb_many.specs.Inputs.{input_at, inputs_left, AreReady, Inputs}
 use Rattle.rsb_many.specs.Many.{gives_of, may_give_at, IsBegun}
 use Rattle.rsb_many.specs.declared.drawn.Drawn.{Drawn}
@@ -62,7 +62,7 @@ module _ {T N I A : Type 0} (integer : Elements T N) (stream : Stream I T N) whe
         → IsFinite (inputs_left integer stream (inputs_of t))
         × (size (inputs_left integer stream (inputs_of t))
         ≤ size (inputs_left integer stream (inputs_of s)))
-    pub compared : t.heads.comparisons + closing t.heads
+    pub compared : t.heads.comparisons + closing_bound t.heads
         ≤ s.heads.comparisons + 2 * binary_digits (length s.streams.items)
     pub counted : s.heads.comparisons ≤ t.heads.comparisons
 
@@ -76,7 +76,7 @@ module _ {T N I A : Type 0} (integer : Elements T N) (stream : Stream I T N) whe
 -- Whether the head that was taken last is back with its start reported, and no range is due.
 pub record PutsBack {T I A N : Type 0} (s : Drawn T I A N) (head : Head T) (t : Drawn T I A N)
     : Type 0 where
-  pub kept : IsPermutation (started head ∷ s.heads.heads) t.heads.heads
+  pub kept : IsPermutation (head_at_end head ∷ s.heads.heads) t.heads.heads
   pub streams : t.streams ≡ s.streams
   pub used : t.used ≡ None
   pub room : s.heads.room ≤ t.heads.room

@@ -9,15 +9,15 @@ use Rattle.rsb_many.specs.declared.heads.Head.{Head}
 -- What contracts see of a heap of heads: the heads, in no particular order, and whether the place
 -- at the top is open. `room` is the number of heads it has room for, and `comparisons` counts the
 -- comparisons of keys made so far.
-pub record Kept (T : Type 0) : Type 0 where
+pub record HeapView (T : Type 0) : Type 0 where
   pub heads : List (Head T)
   pub is_open : Bool
   pub room : ℕ
   pub comparisons : ℕ
 
 -- The heads of a list that count: all but the first if its place is open, and otherwise all.
-abbrev pub standing : {T : Type 0} → Bool → List (Head T) → List (Head T)
-standing is_open heads = drop (cond is_open 1 0) heads
+abbrev pub counted_heads : {T : Type 0} → Bool → List (Head T) → List (Head T)
+counted_heads is_open heads = drop (cond is_open 1 0) heads
 
 -- The ranks of the range of a head.
 abbrev pub run_of_head : {T : Type 0} → (T → ℕ) → Head T → Interval
@@ -34,8 +34,8 @@ head_of input range = record {
 }
 
 -- The head of a range whose start was reported. It is at the end of the range.
-abbrev pub started : {T : Type 0} → Head T → Head T
-started head = record {
+abbrev pub head_at_end : {T : Type 0} → Head T → Head T
+head_at_end head = record {
   at = head.end;
   start = head.start;
   end = head.end;
@@ -65,7 +65,7 @@ IsLeastOf rank head heads =
     All (λ other. IsFalse (comes_before (key_of rank other) (key_of rank head))) heads
 
 -- Whether `head` came out, and no head that is left comes before it.
-pub record TakesLeastHead {T : Type 0} (rank : T → ℕ) (old : Kept T) (head : Head T) (new : Kept T)
+pub record TakesLeastHead {T : Type 0} (rank : T → ℕ) (old : HeapView T) (head : Head T) (new : HeapView T)
     : Type 0 where
   pub kept : IsPermutation old.heads (head ∷ new.heads)
   pub least : IsLeastOf rank head new.heads
@@ -81,5 +81,5 @@ unfoldable pub binary_digits : ℕ → ℕ
 binary_digits n = digits_within n n
 
 -- The most comparisons that closing the place at the top can take: 0 if it is not open.
-abbrev pub closing : {T : Type 0} → Kept T → ℕ
-closing kept = cond kept.is_open (2 * binary_digits (length kept.heads)) 0
+abbrev pub closing_bound : {T : Type 0} → HeapView T → ℕ
+closing_bound kept = cond kept.is_open (2 * binary_digits (length kept.heads)) 0

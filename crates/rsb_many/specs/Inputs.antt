@@ -6,7 +6,7 @@ use Rattle.std.specs.declared.ops.RangeInclusive.{RangeInclusive}
 use Rattle.rsb_integer.specs.Runs.{Interval}
 use Rattle.rsb_integer.specs.declared.integer.Integer.{Ghosts as Elements}
 use Rattle.rsb_streams.specs.Lookahead.{Input}
-use Rattle.rsb_streams.specs.Stream.{◌⊆◌, unless, HasSortedStarts, Outcomes}
+use Rattle.rsb_streams.specs.Stream.{◌⊆◌, outcomes_unless, HasSortedStarts, Outcomes}
 use Rattle.rsb_streams.specs.declared.draw.Draw.{Ghosts as Stream}
 use Rattle.rsb_many.specs.Heads.{head_of, run_of_head}
 use Rattle.rsb_many.specs.Many.{gives_of, may_give_at, merges_all}
@@ -48,7 +48,7 @@ module _ {T N S : Type 0} (integer : Elements T N) (stream : Stream S T N) where
   abbrev pub input_at : Inputs T S → ℕ → Input
   input_at s place = record {
     held = held_at rank s.heads place;
-    undrawn = unless (has_ended s place) (may_give_at stream.may_give s.streams place);
+    undrawn = outcomes_unless (has_ended s place) (may_give_at stream.may_give s.streams place);
   }
 
   -- Whether each stream that has not ended is ready, and each head belongs to an input. The ranges

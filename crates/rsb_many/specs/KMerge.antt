@@ -3,7 +3,7 @@ use Rattle.std.specs.Prelude.{◌≡◌, ℕ, ◌+◌, ◌*◌, ◌≤◌, cond,
 use Rattle.std.specs.declared.ops.RangeInclusive.{RangeInclusive}
 use Rattle.rsb_integer.specs.declared.integer.Integer.{Ghosts as Elements}
 use Rattle.rsb_streams.specs.Lookahead.{AsksOne, Input}
-use Rattle.rsb_streams.specs.Rows.{asking}
+use Rattle.rsb_streams.specs.Rows.{stream_asking}
 use Rattle.rsb_streams.specs.Stream.{◌⊆◌}
 use Rattle.rsb_streams.specs.declared.draw.Draw.{Ghosts as Stream}
 use Rattle.rsb_many.specs.Drawn.{inputs_of, DrawnReady, IsUnstarted}
@@ -39,7 +39,7 @@ module _ {T N I A : Type 0} (integer : Elements T N) (stream : Stream I T N) whe
 
   -- The merge as a stream: what is held of all inputs and what is still to come, by starts.
   abbrev pub kmerge : Stream (KMerge T I A N) T N
-  kmerge = asking integer AsksInOrder KMergeReady
+  kmerge = stream_asking integer AsksInOrder KMergeReady
       (λ s. inputs_left integer stream (inputs_of s.inputs))
       (λ s. inputs_merge integer stream (inputs_of s.inputs))
 

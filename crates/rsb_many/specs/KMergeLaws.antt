@@ -5,7 +5,7 @@ use Rattle.std.specs.Prelude.{IfSome, MatchOption}
 use Rattle.rsb_integer.specs.Runs.{Interval}
 use Rattle.rsb_integer.specs.declared.integer.Integer.{Ghosts as Elements}
 use Rattle.rsb_streams.specs.Rows.{IsSorted}
-use Rattle.rsb_streams.specs.Stream.{unless, HasOutcome}
+use Rattle.rsb_streams.specs.Stream.{outcomes_unless, HasOutcome}
 use Rattle.rsb_streams.specs.declared.draw.Draw.{Ghosts as Stream}
 use Rattle.rsb_many.specs.Drawn.{inputs_of}
 use Rattle.rsb_many.specs.Inputs.{has_ended, input_at, inputs_left, AreReady, Inputs}
@@ -21,7 +21,7 @@ module _ {T N I : Type 0} (integer : Elements T N) (stream : Stream I T N)
       → (over ≡ false → IfSome found stream.can_draw)
       → HasOutcome (gives_of (record {
         held = held;
-        undrawn = unless over
+        undrawn = outcomes_unless over
             (λ runs. MatchOption found (runs ≡ []) (λ s. stream.may_give s runs));
       }))
   some-by true found held can = λ never. never (held ++ []) ([], refl, refl)

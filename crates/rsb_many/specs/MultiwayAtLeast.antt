@@ -3,7 +3,7 @@ use Rattle.std.specs.Prelude.{ℕ, ◌≤◌, List, length, map, sum_by}
 use Rattle.rsb_integer.specs.Runs.{Interval, members, AreRuns}
 use Rattle.rsb_integer.specs.Selection.{at_least}
 use Rattle.rsb_integer.specs.declared.integer.Integer.{Ghosts as Elements}
-use Rattle.rsb_streams.specs.Rows.{through}
+use Rattle.rsb_streams.specs.Rows.{stream_through}
 use Rattle.rsb_streams.specs.Stream.{◌⊆◌, IsMade, Outcomes}
 use Rattle.rsb_streams.specs.declared.draw.Draw.{Ghosts as Stream}
 use Rattle.rsb_many.specs.JoinedPieces.{joined_pieces, joined_telling}
@@ -24,7 +24,7 @@ module _ {T N I A : Type 0} (integer : Elements T N) (stream : Stream I T N) whe
   -- The values in at least a given number of streams, as a stream: the joined pieces of a sweep. A
   -- draw passes some events.
   abbrev pub multiway_at_least : Stream (MultiwayAtLeast T I A N) T N
-  multiway_at_least = through (λ s. s.iter) (joined_pieces integer stream)
+  multiway_at_least = stream_through (λ s. s.iter) (joined_pieces integer stream)
 
   -- Whether `result` is ready and gives only runs of what lies in at least `least` of the streams.
   -- At most one range of each is drawn.

@@ -5,7 +5,7 @@ use Rattle.rsb_integer.specs.Rank.{intervals_of}
 use Rattle.rsb_integer.specs.declared.integer.Integer.{Ghosts as Elements}
 use Rattle.rsb_streams.specs.Lookahead.{Input}
 use Rattle.rsb_streams.specs.NotIter.{not_iter, PassesOver}
-use Rattle.rsb_streams.specs.Rows.{asking}
+use Rattle.rsb_streams.specs.Rows.{stream_asking}
 use Rattle.rsb_streams.specs.declared.draw.Draw.{Ghosts as Stream}
 use Rattle.rsb_streams.specs.declared.not_iter.NotIter.{NotIter}
 use Rattle.rsb_many.specs.Many.{HoldOneAtMost, UsesWithin}
@@ -40,7 +40,7 @@ module _ {T N I A : Type 0} (integer : Elements T N) (stream : Stream I T N) whe
 
   -- The intersection as a stream: the gaps of what at least one of the streams leaves out.
   abbrev pub multiway_intersection : Stream (MultiwayIntersection T I A N) T N
-  multiway_intersection = asking integer AsksOfAll
+  multiway_intersection = stream_asking integer AsksOfAll
       (λ s. not_left_out.can_draw s.iter)
       (λ s. not_left_out.draws_left s.iter)
       (λ s. not_left_out.may_give s.iter)

@@ -3,7 +3,7 @@ use Rattle.std.proofs.lemmas.Bool.{cases_eq}
 use Rattle.std.specs.Prelude.{ℕ}
 use Rattle.rsb_integer.specs.declared.integer.Integer.{Ghosts as Elements}
 use Rattle.rsb_streams.specs.Lookahead.{Input, Sameness}
-use Rattle.rsb_streams.specs.Rows.{asking}
+use Rattle.rsb_streams.specs.Rows.{stream_asking}
 use Rattle.rsb_streams.specs.UnionIter.{joined_inputs, union_iter, AsksAhead}
 use Rattle.rsb_streams.specs.declared.draw.Draw.{Ghosts as Stream}
 use Rattle.rsb_streams.specs.declared.union_iter.UnionIter.{UnionIter}
@@ -22,7 +22,7 @@ module _ {T N I A : Type 0} (integer : Elements T N) (stream : Stream I T N) whe
 
   -- The union as a stream. A draw looks ahead by at most one range of each stream.
   abbrev pub multiway_union : Stream (MultiwayUnion T I A N) T N
-  multiway_union = asking integer
+  multiway_union = stream_asking integer
       (λ s item t. AsksAhead same_place integer (kmerge_inputs integer stream) s.iter item t.iter)
       (λ s. joined_kmerge.can_draw s.iter)
       (λ s. joined_kmerge.draws_left s.iter)

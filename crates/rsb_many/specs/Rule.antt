@@ -68,9 +68,9 @@ deep_crossing least depth (End last input ∷ events) = cond (nat_eq least depth
     (deep_crossing (least + 1) depth events)
 
 -- The events where a piece begins or ends.
-abbrev pub crossing : Rule → ℕ → List Event → List Event
-crossing Odd depth events = events
-crossing (AtLeast least) depth events = deep_crossing least depth events
+abbrev pub crossing_events : Rule → ℕ → List Event → List Event
+crossing_events Odd depth events = events
+crossing_events (AtLeast least) depth events = deep_crossing least depth events
 
 -- The edge of a piece that begins before all events: rank 0 if the rule selects what is in no set,
 -- and otherwise none.

@@ -64,12 +64,12 @@ pub record Rest : Type 0 where
   pub runs : List Interval
 
 -- What is left of an input if no range has started.
-abbrev pub not_begun : List Interval → Rest
-not_begun runs = record { begun = None; runs = runs }
+abbrev pub rest_unstarted : List Interval → Rest
+rest_unstarted runs = record { begun = None; runs = runs }
 
 -- What is left of an input if a range has started that ends at `last`.
-abbrev pub begun_to : ℕ → List Interval → Rest
-begun_to last runs = record { begun = Some last; runs = runs }
+abbrev pub rest_started : ℕ → List Interval → Rest
+rest_started last runs = record { begun = Some last; runs = runs }
 
 -- The end of a range that has started, if one has, followed by the other events.
 abbrev pub end_then : ℕ → Option ℕ → List Event → List Event
@@ -102,14 +102,14 @@ IsTouchingRest rest = IsTouchingFrom (next_low rest.begun) rest.runs
 
 -- What is left of an input that has ended.
 abbrev pub nothing_left : Rest
-nothing_left = not_begun []
+nothing_left = rest_unstarted []
 
 -- What is left of an input that gives these ranges, of which the first has started if the flag is
 -- true.
 abbrev pub rest_by : Bool → List Interval → Rest
-rest_by false runs = not_begun runs
+rest_by false runs = rest_unstarted runs
 rest_by true [] = nothing_left
-rest_by true (run ∷ runs) = begun_to run.last runs
+rest_by true (run ∷ runs) = rest_started run.last runs
 
 -- What is left of inputs that give these lists. `begun` holds at the places of those whose first
 -- range has started.

@@ -6,16 +6,16 @@ use Rattle.std.specs.declared.ops.RangeInclusive.{RangeInclusive}
 use Rattle.rsb_integer.specs.Runs.{Interval}
 use Rattle.rsb_integer.specs.Selection.{Selection, odd_of}
 use Rattle.rsb_integer.specs.declared.integer.Integer.{Ghosts as Elements}
-use Rattle.rsb_streams.specs.Lookahead.{undrawn, HasEnded, Input, Uses}
+use Rattle.rsb_streams.specs.Lookahead.{undrawn_input, HasEnded, Input, Uses}
 use Rattle.rsb_streams.specs.OddPieces.{ArePieces}
 use Rattle.rsb_streams.specs.PutBack.{held_list}
-use Rattle.rsb_streams.specs.Rows.{asking}
-use Rattle.rsb_streams.specs.Stream.{just, unless, Outcomes}
+use Rattle.rsb_streams.specs.Rows.{stream_asking}
+use Rattle.rsb_streams.specs.Stream.{just, outcomes_unless, Outcomes}
 use Rattle.rsb_streams.specs.UnionIter.{unless_ended}
 use Rattle.rsb_streams.specs.declared.draw.Draw.{Ghosts as Stream}
 use Rattle.rsb_many.specs.Many.{HoldOneAtMost}
 use Rattle.rsb_many.specs.MultiwaySweep.{events_left, sweep_inputs, sweep_may_give, EventOutcomes, SweepReady}
-use Rattle.rsb_many.specs.Rule.{crosses, crossing, depth_after, IsDepth}
+use Rattle.rsb_many.specs.Rule.{crosses, crossing_events, depth_after, IsDepth}
 use Rattle.rsb_many.specs.Sweep.{End, Event, Start}
 use Rattle.rsb_many.specs.declared.sweep_pieces.Rule.{Rule}
 use Rattle.rsb_many.specs.declared.sweep_pieces.SweepPieces.{SweepPieces}
@@ -101,8 +101,8 @@ pub record Telling : Type 1 where
   pub events : EventOutcomes
 
 -- The inputs and events once all is over: the inputs have ended, and no events come.
-abbrev pub told_all : Telling
-told_all = record { inputs = λ place. undrawn (just []); events = λ events. events ≡ [] }
+abbrev pub all_ended : Telling
+all_ended = record { inputs = λ place. undrawn_input (just []); events = λ events. events ≡ [] }
 
 -- Whether some events were passed, ahead of those that may still come. Each input used the ranges
 -- whose ends were passed, and at most one range of each is held.
@@ -114,7 +114,7 @@ pub record PassesSome (before now : Telling) : Type 0 where
 
 -- Whether all events were passed and the inputs have ended.
 pub record PassesAll (before now : Telling) : Type 0 where
-  pub passes : PassesSome before told_all
+  pub passes : PassesSome before all_ended
   pub over : (place : ℕ) → HasEnded (now.inputs place)
 
 -- Whether a call passes some events, or all that are left if it returns `None`.
@@ -123,8 +123,8 @@ AsksToPass before item now =
     MatchOption item (PassesAll before now) (λ _. PassesSome before now)
 
 -- The given inputs and events. Once the stream is done, all inputs have ended and no event comes.
-abbrev pub unless_told : Bool → Telling → Telling
-unless_told done telling = record {
+abbrev pub unless_all_ended : Bool → Telling → Telling
+unless_all_ended done telling = record {
   inputs = λ place. unless_ended done (telling.inputs place);
   events = λ events. MatchBool done (events ≡ []) (telling.events events);
 }
@@ -151,7 +151,7 @@ module _ {T N I A : Type 0} (integer : Elements T N) (stream : Stream I T N) whe
 
   -- The same, or none once the sweep has ended.
   abbrev pub pieces_telling : SweepPieces T I A N → Telling
-  pieces_telling s = unless_told s.done (going_telling s)
+  pieces_telling s = unless_all_ended s.done (going_telling s)
 
   -- Whether the sweep is ready, a piece that has begun starts at a value, no edge to come lies
   -- before that, and every range that has started will end.
@@ -168,11 +168,11 @@ module _ {T N I A : Type 0} (integer : Elements T N) (stream : Stream I T N) whe
   abbrev pub going_gives : SweepPieces T I A N → Outcomes
   going_gives s pieces = SomeEvents (sweep_may_give integer stream s.sweep)
       (λ events. ArePieces n (odd_past (edges_of rank s.start
-      ++ map edge_of (crossing s.rule s.depth events))) pieces)
+      ++ map edge_of (crossing_events s.rule s.depth events))) pieces)
 
   -- The same, or none once the sweep has ended.
   abbrev pub pieces_may_give : SweepPieces T I A N → Outcomes
-  pieces_may_give s = unless s.done (going_gives s)
+  pieces_may_give s = outcomes_unless s.done (going_gives s)
 
   -- The greatest number of pieces left: one for each event to come, and the one that has begun.
   abbrev pub pieces_left : SweepPieces T I A N → Count
@@ -181,5 +181,6 @@ module _ {T N I A : Type 0} (integer : Elements T N) (stream : Stream I T N) whe
 
   -- The stream of pieces. A draw passes some events.
   abbrev pub sweep_pieces : Stream (SweepPieces T I A N) T N
-  sweep_pieces = asking integer (λ s item t. AsksToPass (pieces_telling s) item (pieces_telling t))
+  sweep_pieces = stream_asking integer
+      (λ s item t. AsksToPass (pieces_telling s) item (pieces_telling t))
       (λ s. s.done ≡ false → PiecesReady s) pieces_left pieces_may_give

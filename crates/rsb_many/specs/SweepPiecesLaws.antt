@@ -1,12 +1,12 @@
 -- The law of the pieces of a sweep: they come in the order of their starts.
 use Rattle.std.proofs.Common.{◌≡◌, Bool, true, false, ◌++◌, map, refl, []}
 use Rattle.rsb_integer.specs.declared.integer.Integer.{Ghosts as Elements}
-use Rattle.rsb_integer.proofs.RunsLemmas.{runs-canonical, runs-members}
+use Rattle.rsb_integer.proofs.lemmas.Runs.{runs-canonical, runs-members}
 use Rattle.rsb_streams.specs.Rows.{IsSorted}
 use Rattle.rsb_streams.specs.Stream.{HasSortedStarts, Keeps}
 use Rattle.rsb_streams.specs.StreamLaws.{canonical-sorted, runs-exist, settled_sorted}
 use Rattle.rsb_streams.specs.declared.draw.Draw.{Ghosts as Stream}
-use Rattle.rsb_many.specs.Rule.{crossing}
+use Rattle.rsb_many.specs.Rule.{crossing_events}
 use Rattle.rsb_many.specs.SweepPieces.{edge_of, edges_of, odd_past, pieces_left, pieces_may_give, sweep_pieces, PiecesReady}
 use Rattle.rsb_many.specs.declared.sweep_pieces.SweepPieces.{SweepPieces}
 
@@ -25,7 +25,7 @@ module _ {T N I A : Type 0} (integer : Elements T N) (stream : Stream I T N) whe
   sweep_pieces-keeps s false is ready = rw is (record {
     some = λ never. (ready is).sweep.some (λ events may.
         let selected = odd_past (edges_of rank s.start
-        ++ map edge_of (crossing s.rule s.depth events)) in
+        ++ map edge_of (crossing_events s.rule s.depth events)) in
         let runs = runs-exist n selected in
         let canonical = runs-canonical n selected runs.0 runs.1 in
         never runs.0 (λ nothing. nothing events may (record {

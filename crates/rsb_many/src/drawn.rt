@@ -2,7 +2,7 @@
 
 ghost use Rattle.std.specs.Prelude.{◌≡◌, ◌+◌, ◌*◌, ◌<◌, ◌≤◌, [], length, slice_get, All, IfOk, IfSome, MatchOption, None};
 ghost use Rattle.rsb_many.specs.Drawn.{DrawnReady, HasNoHead, IsBegunOf, PutsBack, Refills, TakesHead};
-ghost use Rattle.rsb_many.specs.Heads.{binary_digits, closing, HasValues};
+ghost use Rattle.rsb_many.specs.Heads.{binary_digits, closing_bound, HasValues};
 ghost use Rattle.rsb_many.specs.Inputs.{DrawsAt};
 
 use crate::heads::{Head, Heads};
@@ -61,7 +61,7 @@ impl<T: Integer, I: Draw<T>, A: Allocator> Drawn<T, I, A> {
             self.old.heads.heads self.new.streams.items self.new.heads.heads }
         ensures used { self.new.used ≡ self.old.used }
         ensures room { self.old.heads.room ≤ self.new.heads.room }
-        ensures compared { self.new.heads.comparisons + closing self.new.heads
+        ensures compared { self.new.heads.comparisons + closing_bound self.new.heads
             ≤ self.old.heads.comparisons + 2 * binary_digits (length self.new.heads.heads) }
         ensures counted { self.old.heads.comparisons ≤ self.new.heads.comparisons }
     {
@@ -88,7 +88,7 @@ impl<T: Integer, I: Draw<T>, A: Allocator> Drawn<T, I, A> {
             (λ head. TakesHead T.Integer.own I.Draw self.old head self.new) }
         ensures values { IfSome result (HasValues T.rank T.value_count) }
         ensures compared { self.new.heads.comparisons
-            ≤ self.old.heads.comparisons + closing self.old.heads }
+            ≤ self.old.heads.comparisons + closing_bound self.old.heads }
         ensures counted { self.old.heads.comparisons ≤ self.new.heads.comparisons }
     {
         let head = self.heads.pop()?;

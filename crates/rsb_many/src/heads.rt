@@ -5,10 +5,10 @@ ghost use Rattle.std.specs.Prelude.{◌≡◌, ◌*◌, ◌+◌, ◌<◌, ◌≤
 ghost use Rattle.rsb_integer.specs.Rank.{interval_of};
 ghost use Rattle.rsb_many.specs.Heads.{
   binary_digits,
-  closing,
+  closing_bound,
   head_of,
   run_of_head,
-  started,
+  head_at_end,
   HasValues,
   TakesLeastHead,
 };
@@ -78,13 +78,13 @@ pub(crate) struct Heads<T: Integer, A: Allocator = Global> {
 
 impl<T: Integer, A: Allocator> Model for Heads<T, A> {
     ghost use Rattle.std.specs.Vec.{vec_capacity};
-    ghost use Rattle.rsb_many.specs.Heads.{standing, Kept};
+    ghost use Rattle.rsb_many.specs.Heads.{counted_heads, HeapView};
     ghost use Rattle.rsb_many.specs.HeapOrder.{AreKept};
 
-    ghost Value = { Kept T };
+    ghost Value = { HeapView T };
 
     ghost view = { λ s. record {
-      heads = standing s.is_open s.list.heads.items;
+      heads = counted_heads s.is_open s.list.heads.items;
       is_open = s.is_open;
       room = vec_capacity s.list.heads;
       comparisons = s.list.comparisons.made;
@@ -133,7 +133,7 @@ impl<T: Integer, A: Allocator> Heads<T, A> {
     pub(crate) fn put_back(&mut self, head: Head<T>)
         requires room { length self.old.heads < self.old.room }
         requires values { HasValues T.rank T.value_count head }
-        ensures kept { IsPermutation (started head ∷ self.old.heads) self.new.heads }
+        ensures kept { IsPermutation (head_at_end head ∷ self.old.heads) self.new.heads }
         ensures closed { IsFalse self.new.is_open }
         ensures room { self.old.room ≤ self.new.room }
         ensures compared { self.new.comparisons
@@ -177,7 +177,7 @@ impl<T: Integer, A: Allocator> Heads<T, A> {
             (λ head. TakesLeastHead T.rank self.old head self.new) }
         ensures values { IfSome result (HasValues T.rank T.value_count) }
         ensures room { self.old.room ≤ self.new.room }
-        ensures compared { self.new.comparisons ≤ self.old.comparisons + closing self.old }
+        ensures compared { self.new.comparisons ≤ self.old.comparisons + closing_bound self.old }
         ensures counted { self.old.comparisons ≤ self.new.comparisons }
     {
         self.close();
@@ -194,7 +194,7 @@ impl<T: Integer, A: Allocator> Heads<T, A> {
         ensures closed { IsFalse self.new.is_open }
         ensures room { self.old.room ≤ self.new.room }
         ensures compared { self.new.comparisons
-            ≤ self.old.comparisons + closing self.old }
+            ≤ self.old.comparisons + closing_bound self.old }
         ensures counted { self.old.comparisons ≤ self.new.comparisons }
     {
         if self.is_open {

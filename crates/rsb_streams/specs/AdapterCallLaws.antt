@@ -20,7 +20,7 @@ use Rattle.rsb_integer.specs.Rank.{interval_of, intervals_of}
 use Rattle.rsb_integer.specs.Runs.{Interval}
 use Rattle.rsb_streams.specs.Adapters.{IsSkipped, filter_may_give, skip_may_give, skip_while_may_give, take_may_give, take_while_may_give}
 use Rattle.rsb_streams.specs.Fused.{fuse_may_give}
-use Rattle.rsb_streams.specs.Stream.{Outcomes, Answers, unless}
+use Rattle.rsb_streams.specs.Stream.{Outcomes, Answers, outcomes_unless}
 use Rattle.rsb_streams.specs.SublistsLaws.{sublist-after}
 use denote.Param.Members.{Mut}
 use denote.Ref.{Bor}
@@ -234,7 +234,8 @@ module _ {S T : Type 0} (rank : T → ℕ) (P : S → Outcomes)
   -- A call to `Fuse` that returns a range fits what it may give. By cases on whether it had ended.
   fuse-by : (done after : Bool) (s t : S) (range : RangeInclusive T) (rest : List Interval)
       → MatchBool done (Some range ≡ None) (steps s (Some range) t) → after ≡ false
-      → unless after (P t) rest → unless done (P s) (interval_of rank range ∷ rest)
+      → outcomes_unless after (P t) rest
+      → outcomes_unless done (P s) (interval_of rank range ∷ rest)
   fuse-by true after s t range rest call undone may = absurd (cc)
   fuse-by false true s t range rest call undone may = absurd (cc)
   fuse-by false false s t range rest call undone may = gives s t range call rest may

@@ -18,12 +18,12 @@ use Rattle.rsb_integer.specs.Prefix.{IsPrefix, IsSuffix}
 use Rattle.rsb_integer.specs.Runs.{Interval}
 use Rattle.rsb_integer.specs.declared.integer.Integer.{Ghosts as Elements}
 use Rattle.rsb_streams.specs.AdapterCallLaws.{filter-gives, fuse-gives, skip-gives, skip_while-gives, take-gives, take_while-gives}
-use Rattle.rsb_streams.specs.Adapters.{adapted, filter_draws, fuse_draws, IsSkipped, NextIsDraw, part_of, skip_draws, skip_while_draws, take_draws, take_while_draws}
+use Rattle.rsb_streams.specs.Adapters.{adapter_stream, filter_draws, fuse_draws, IsSkipped, NextIsDraw, part_of, skip_draws, skip_while_draws, take_draws, take_while_draws}
 use Rattle.rsb_streams.specs.Fused.{fuse_can_next, fuse_remaining}
 use Rattle.rsb_streams.specs.FusedLaws.{fuse-keeps}
 use Rattle.rsb_streams.specs.PartLaws.{front-is_part, part-keeps, rest-is_part, skip-is_part, sublist-is_part, take-is_part}
 use Rattle.rsb_streams.specs.Rows.{IsAnswered, IsSorted}
-use Rattle.rsb_streams.specs.Stream.{Outcomes, Answers, HasOutcome, HasSortedStarts, Keeps, unless}
+use Rattle.rsb_streams.specs.Stream.{Outcomes, Answers, HasOutcome, HasSortedStarts, Keeps, outcomes_unless}
 use Rattle.rsb_streams.specs.SublistsLaws.{sublist-none}
 use Rattle.rsb_streams.specs.declared.draw.Draw.{Ghosts as Stream}
 use denote.Param.Members.{Mut}
@@ -55,7 +55,7 @@ module _ {S T N : Type 0} (integer : Elements T N) (stream : Stream S T N)
       → ((s t : A) (range : RangeInclusive T) → own.next_gives s (Some range) t
       → Answers rank may_give s (Some range) t)
       → ((s t : A) → own.can_next s → own.next_gives s None t → may_give s [])
-      → NextIsDraw (adapted integer stream next own Source Closure may_give) own
+      → NextIsDraw (adapter_stream integer stream next own Source Closure may_give) own
   adapted-drawn own Source Closure may_give opens closes given ended = record {
     drawable = λ s can.
         let parts = opens s can in
@@ -255,7 +255,8 @@ module _ {S T N : Type 0} (integer : Elements T N) (stream : Stream S T N)
   -- If a `Fuse` returns `None`, it may give the empty list. By cases on whether it had already
   -- ended.
   fuse-none : (done : Bool) (s t : S) → (done ≡ false → next.can_next s)
-      → MatchBool done (◌≡◌ {A = Option (RangeInclusive T)} None None) (next.next_gives s None t) → unless done (stream.may_give s) []
+      → MatchBool done (◌≡◌ {A = Option (RangeInclusive T)} None None) (next.next_gives s None t)
+      → outcomes_unless done (stream.may_give s) []
   fuse-none true s t can each = refl
   fuse-none false s t can each = answers s t None (drawn.ends s t (can refl) each)
 

@@ -90,9 +90,10 @@ module _ {S T N : Type 0} (integer : Elements T N) (stream : Stream S T N)
     (next : Iteration S (RangeInclusive T)) where
   -- An adapter as a stream, from its own `next`. `Source` states that its stream is ready, and
   -- `Closure` that its closure may be called.
-  abbrev pub adapted : {A : Type 0} → Iteration A (RangeInclusive T) → (A → Type 0) → (A → Type 0)
+  abbrev pub adapter_stream : {A : Type 0} → Iteration A (RangeInclusive T) → (A → Type 0)
+      → (A → Type 0)
       → (A → Outcomes) → Stream A T N
-  adapted own Source Closure may_give = record {
+  adapter_stream own Source Closure may_give = record {
     can_draw = λ s. MayDraw (Source s) (Closure s) (NextIsDraw stream next);
     draw_gives = IsCall integer.rank own.next_gives may_give;
     draws_left = own.remaining;
@@ -101,37 +102,37 @@ module _ {S T N : Type 0} (integer : Elements T N) (stream : Stream S T N)
 
   -- `Take` as a stream: the first ranges of its stream.
   abbrev pub take_draws : Iteration (Take S) (RangeInclusive T) → Stream (Take S) T N
-  take_draws own = adapted own (λ s. stream.can_draw (take_source s)) (λ s. Unit {0})
+  take_draws own = adapter_stream own (λ s. stream.can_draw (take_source s)) (λ s. Unit {0})
       (take_may_give stream.may_give)
 
   -- `Skip` as a stream: the ranges after the first ones.
   abbrev pub skip_draws : Iteration (Skip S) (RangeInclusive T) → Stream (Skip S) T N
-  skip_draws own = adapted own (λ s. stream.can_draw (skip_source s)) (λ s. Unit {0})
+  skip_draws own = adapter_stream own (λ s. stream.can_draw (skip_source s)) (λ s. Unit {0})
       (skip_may_give next.next_gives stream.may_give)
 
   -- `Fuse` as a stream: all ranges, and nothing after the end.
   abbrev pub fuse_draws : Iteration (Fuse S) (RangeInclusive T) → Stream (Fuse S) T N
-  fuse_draws own = adapted own (fuse_can_next stream.can_draw) (λ s. Unit {0})
+  fuse_draws own = adapter_stream own (fuse_can_next stream.can_draw) (λ s. Unit {0})
       (fuse_may_give stream.may_give)
 
   module _ {F : Type 0} (call : Mut F (Bor (RangeInclusive T) × Unit {0}) Bool) where
     -- `Filter` as a stream: the ranges that pass the test of its closure.
     abbrev pub filter_draws : Iteration (Filter S F) (RangeInclusive T) → Stream (Filter S F) T N
-    filter_draws own = adapted own (λ s. stream.can_draw (filter_source s))
+    filter_draws own = adapter_stream own (λ s. stream.can_draw (filter_source s))
         (λ s. CallableOnAllAt next.next_gives call (filter_source s) (filter_callee s))
         (filter_may_give stream.may_give)
 
     -- `TakeWhile` as a stream: the ranges before the first that fails the test.
     abbrev pub take_while_draws : Iteration (TakeWhile S F) (RangeInclusive T)
         → Stream (TakeWhile S F) T N
-    take_while_draws own = adapted own (λ s. stream.can_draw (take_while_source s))
+    take_while_draws own = adapter_stream own (λ s. stream.can_draw (take_while_source s))
         (λ s. CallableWhileAt next.next_gives call true (take_while_source s) (take_while_callee s))
         (take_while_may_give stream.may_give)
 
     -- `SkipWhile` as a stream: the first range that fails the test, and all ranges after it.
     abbrev pub skip_while_draws : Iteration (SkipWhile S F) (RangeInclusive T)
         → Stream (SkipWhile S F) T N
-    skip_while_draws own = adapted own (λ s. stream.can_draw (skip_while_source s))
+    skip_while_draws own = adapter_stream own (λ s. stream.can_draw (skip_while_source s))
         (λ s. skip_while_done_skipping s ≡ false
         → CallableWhileAt next.next_gives call true (skip_while_source s) (skip_while_callee s))
         (skip_while_may_give stream.may_give)

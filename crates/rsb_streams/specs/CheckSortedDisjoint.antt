@@ -5,12 +5,12 @@ use Rattle.rsb_integer.specs.Runs.{IsCanonicalIn}
 use Rattle.rsb_integer.specs.declared.integer.Integer.{Ghosts as Elements}
 use Rattle.rsb_streams.specs.Calls.{calls}
 use Rattle.rsb_streams.specs.Fused.{fuse}
-use Rattle.rsb_streams.specs.Rows.{through}
+use Rattle.rsb_streams.specs.Rows.{stream_through}
 use Rattle.rsb_streams.specs.declared.check_sorted_disjoint.CheckSortedDisjoint.{CheckSortedDisjoint}
 use Rattle.rsb_streams.specs.declared.draw.Draw.{Ghosts as Stream}
 
 -- What calls to the iterator may give, and nothing once it has ended.
 abbrev pub check_sorted_disjoint : {I T N : Type 0} → Elements T N → Iteration I (RangeInclusive T)
     → Stream (CheckSortedDisjoint T I) T N
-check_sorted_disjoint integer iterator = through (λ s. s.iter)
+check_sorted_disjoint integer iterator = stream_through (λ s. s.iter)
     (fuse (calls integer iterator (IsCanonicalIn integer.value_count)))

@@ -4,14 +4,14 @@ use Rattle.rsb_integer.specs.Runs.{Interval, AreRuns}
 use Rattle.rsb_integer.specs.Selection.{Selection, complement}
 
 -- The intervals marked `true`, as runs, in order.
-abbrev pub told_runs : List (Interval × Bool) → List Interval
-told_runs [] = []
-told_runs (pair ∷ pairs) = cond pair.1 (pair.0 ∷ told_runs pairs) (told_runs pairs)
+abbrev pub marked_runs : List (Interval × Bool) → List Interval
+marked_runs [] = []
+marked_runs (pair ∷ pairs) = cond pair.1 (pair.0 ∷ marked_runs pairs) (marked_runs pairs)
 
 -- The intervals marked `false`, as gaps, in order.
-abbrev pub told_gaps : List (Interval × Bool) → List Interval
-told_gaps [] = []
-told_gaps (pair ∷ pairs) = cond pair.1 (told_gaps pairs) (pair.0 ∷ told_gaps pairs)
+abbrev pub marked_gaps : List (Interval × Bool) → List Interval
+marked_gaps [] = []
+marked_gaps (pair ∷ pairs) = cond pair.1 (marked_gaps pairs) (pair.0 ∷ marked_gaps pairs)
 
 -- Whether the first interval starts at `low` or later, and each other one starts past the start of
 -- the one before.
@@ -25,5 +25,5 @@ IsAscendingFrom low (pair ∷ pairs) =
 pub record IsFilledList (n : ℕ) (selected : Selection) (pairs : List (Interval × Bool)) : Type
     0 where
   pub ascending : IsAscendingFrom 0 pairs
-  pub runs : AreRuns n selected (told_runs pairs)
-  pub gaps : AreRuns n (complement selected) (told_gaps pairs)
+  pub runs : AreRuns n selected (marked_runs pairs)
+  pub gaps : AreRuns n (complement selected) (marked_gaps pairs)

@@ -6,7 +6,7 @@ use Rattle.std.specs.declared.ops.RangeInclusive.{RangeInclusive}
 use Rattle.rsb_integer.specs.Rank.{interval_of}
 use Rattle.rsb_integer.specs.Runs.{Interval, members, AreRuns}
 use Rattle.rsb_integer.specs.declared.integer.Integer.{Ghosts as Elements}
-use Rattle.rsb_streams.specs.FillGaps.{told_runs, told_gaps, IsAscendingFrom, IsFilledList}
+use Rattle.rsb_streams.specs.FillGaps.{marked_runs, marked_gaps, IsAscendingFrom, IsFilledList}
 use Rattle.rsb_streams.specs.NotIter.{NotReady}
 use Rattle.rsb_streams.specs.PutBack.{put_back}
 use Rattle.rsb_streams.specs.Stream.{Outcomes, gaps_from, SomeOutcome}
@@ -22,8 +22,8 @@ FilledOutcomes = List (Interval × Bool) → Type 0
 pub record FillsFrom (n low : ℕ) (runs : List Interval) (pairs : List (Interval × Bool)) : Type
     0 where
   pub ascending : IsAscendingFrom low pairs
-  pub all_runs : told_runs pairs ≡ runs
-  pub gaps : AreRuns n (gaps_from low (members runs)) (told_gaps pairs)
+  pub all_runs : marked_runs pairs ≡ runs
+  pub gaps : AreRuns n (gaps_from low (members runs)) (marked_gaps pairs)
 
 -- What may come if the next run or gap starts at the given value. If there is no such value,
 -- nothing comes.

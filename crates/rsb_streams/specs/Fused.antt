@@ -4,12 +4,12 @@ use Rattle.std.specs.Prelude.{Option, None, MatchBool, MatchOption}
 use Rattle.std.specs.declared.iter.Fuse.{Fuse}
 use Rattle.std.specs.Iterator.{Count, count_unless}
 use Rattle.std.specs.Iterator.Adapters.{fuse_done, fuse_source, fuse_steps}
-use Rattle.rsb_streams.specs.Stream.{Outcomes, unless}
+use Rattle.rsb_streams.specs.Stream.{Outcomes, outcomes_unless}
 use Rattle.rsb_streams.specs.declared.draw.Draw.{Ghosts as Stream}
 
 -- What a stream in a `Fuse` may give: nothing once it has ended.
 abbrev pub fuse_may_give : {S : Type 0} → (S → Outcomes) → Fuse S → Outcomes
-fuse_may_give may_give s = unless (fuse_done s) (may_give (fuse_source s))
+fuse_may_give may_give s = outcomes_unless (fuse_done s) (may_give (fuse_source s))
 
 -- Whether a `Fuse` may be called: its stream may be called, or has ended.
 abbrev pub fuse_can_next : {S : Type 0} → (S → Type 0) → Fuse S → Type 0
@@ -26,7 +26,7 @@ pub record Fused (S : Type 0) : Type 0 where
 
 -- What a stream with a flag may give: nothing once it has ended.
 abbrev pub fused_may_give : {S : Type 0} → (S → Outcomes) → Fused S → Outcomes
-fused_may_give may_give s = unless s.done (may_give s.iter)
+fused_may_give may_give s = outcomes_unless s.done (may_give s.iter)
 
 -- Whether a stream with a flag is ready: the stream is ready, or has ended.
 abbrev pub fused_can : {S : Type 0} → (S → Type 0) → Fused S → Type 0
@@ -55,8 +55,8 @@ module _ {S T N : Type 0} (stream : Stream S T N) where
   }
 
   -- A stream with a flag, whose draws are its calls.
-  abbrev pub fused : Stream (Fused S) T N
-  fused = record {
+  abbrev pub fused_stream : Stream (Fused S) T N
+  fused_stream = record {
     can_draw = fused_can stream.can_draw;
     draw_gives = fused_steps stream.draw_gives;
     draws_left = fused_left stream.draws_left;

@@ -27,8 +27,8 @@ pub record Uses (before : Input) (used : List Interval) (now : Input) : Type 0 w
   pub in_order : before.held ++ drawn ≡ used ++ now.held
 
 -- A stream from which nothing has been drawn, as an input.
-abbrev pub undrawn : Outcomes → Input
-undrawn may_give = record { held = []; undrawn = may_give }
+abbrev pub undrawn_input : Outcomes → Input
+undrawn_input may_give = record { held = []; undrawn = may_give }
 
 -- Whether nothing has been drawn yet from a stream that is an input.
 pub record IsUndrawn (may_give : Outcomes) (input : Input) : Type 0 where
@@ -41,12 +41,12 @@ HasEnded = IsUndrawn (just [])
 
 -- Whether an input ends: nothing of it was held before the call, and it gave nothing more.
 pub record Ends (before now : Input) : Type 0 where
-  pub uses : Uses before [] (undrawn (just []))
+  pub uses : Uses before [] (undrawn_input (just []))
   pub over : HasEnded now
 
 -- An input with the given ranges held before the others.
-abbrev pub holding : List Interval → Input → Input
-holding runs input = record { held = runs ++ input.held; undrawn = input.undrawn }
+abbrev pub with_held_ranges : List Interval → Input → Input
+with_held_ranges runs input = record { held = runs ++ input.held; undrawn = input.undrawn }
 
 -- ---- a returned range, and what is ahead of it
 

@@ -3,7 +3,7 @@ use Rattle.std.specs.Iterator.{count_add}
 use Rattle.rsb_integer.specs.declared.integer.Integer.{Ghosts as Elements}
 use Rattle.rsb_streams.specs.Lookahead.{at_side, AreUndrawn, AsksOne, Input, Left, Right, Side}
 use Rattle.rsb_streams.specs.PutBack.{input_of, put_back}
-use Rattle.rsb_streams.specs.Rows.{asking}
+use Rattle.rsb_streams.specs.Rows.{stream_asking}
 use Rattle.rsb_streams.specs.Stream.{merges}
 use Rattle.rsb_streams.specs.declared.draw.Draw.{Ghosts as Stream}
 use Rattle.rsb_streams.specs.declared.merge.Merge.{Merge}
@@ -24,7 +24,7 @@ module _ {T N L R : Type 0} (integer : Elements T N) (lefts : Stream L T N)
   -- takes one range of one stream. At most as many are left as in both streams together, including
   -- those held.
   abbrev pub merge : Stream (Merge T L R) T N
-  merge = asking integer (AsksOne integer.rank merge_inputs) MergeReady
+  merge = stream_asking integer (AsksOne integer.rank merge_inputs) MergeReady
       (λ s. count_add ((put_back integer lefts).draws_left s.left)
       ((put_back integer rights).draws_left s.right))
       (λ s. merges integer.value_count ((put_back integer lefts).may_give s.left)

@@ -4,7 +4,7 @@ use Rattle.std.proofs.lemmas.Bool.{cases_lt}
 use Rattle.std.specs.Iterator.{Count, IsFinite, count_add}
 use Rattle.rsb_integer.specs.Runs.{Interval}
 use Rattle.rsb_integer.specs.declared.integer.Integer.{Ghosts as Elements}
-use Rattle.rsb_integer.proofs.ListLemmas.{true_or_false}
+use Rattle.rsb_integer.proofs.lemmas.List.{true_or_false}
 use Rattle.rsb_streams.specs.Merge.{merge}
 use Rattle.rsb_streams.specs.StreamLaws.{settled_sorted}
 use Rattle.rsb_streams.specs.PutBack.{put_back}

@@ -5,7 +5,7 @@ use Rattle.std.specs.Iterator.{count_map, count_unless, Yields, YieldsThen}
 use Rattle.std.specs.declared.ops.RangeInclusive.{RangeInclusive}
 use Rattle.rsb_integer.specs.Runs.{IsCanonicalFrom}
 use Rattle.rsb_integer.specs.declared.integer.Integer.{Ghosts as Elements}
-use Rattle.rsb_streams.specs.Rows.{asking}
+use Rattle.rsb_streams.specs.Rows.{stream_asking}
 use Rattle.rsb_streams.specs.Stream.{Outcomes, ◌⊆◌, gaps_from, runs_by}
 use Rattle.rsb_streams.specs.declared.draw.Draw.{Ghosts as Stream}
 use Rattle.rsb_streams.specs.declared.not_iter.NotIter.{NotIter}
@@ -36,7 +36,7 @@ module _ {T N I : Type 0} (integer : Elements T N) (stream : Stream I T N) where
   -- its last gap, or if the input is ready for the next one. It has at most one more gap left than
   -- the input has ranges, and none after the last gap.
   abbrev pub not_iter : Stream (NotIter T I) T N
-  not_iter = asking integer PassesOver
+  not_iter = stream_asking integer PassesOver
       (λ s. IfSome s.start (NotReady s.iter))
       (λ s. count_unless (is_none s.start) (count_map (λ left. left + 1) (stream.draws_left s.iter)))
       (λ s. gaps_after integer.rank integer.value_count s.start (stream.may_give s.iter))

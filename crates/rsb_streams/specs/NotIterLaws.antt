@@ -5,7 +5,7 @@ use Rattle.std.specs.Prelude.{Option, Some, None, IfSome, is_none}
 use Rattle.std.specs.Iterator.{count_map, count_unless}
 use Rattle.rsb_integer.specs.Runs.{Interval, members, IsCanonicalIn}
 use Rattle.rsb_integer.specs.declared.integer.Integer.{Ghosts as Elements}
-use Rattle.rsb_integer.proofs.RunsLemmas.{runs-canonical}
+use Rattle.rsb_integer.proofs.lemmas.Runs.{runs-canonical}
 use Rattle.rsb_streams.specs.NotIter.{gaps_after, not_iter, NotReady}
 use Rattle.rsb_streams.specs.StreamLaws.{runs-exist, settled_canonical_in}
 use Rattle.rsb_streams.specs.Rows.{IsDisjoint, IsSorted}

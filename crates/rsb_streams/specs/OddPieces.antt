@@ -7,8 +7,8 @@ use Rattle.rsb_integer.specs.Rank.{interval_of, intervals_of}
 use Rattle.rsb_integer.specs.Runs.{Interval, cover, covers, members, HasRanks}
 use Rattle.rsb_integer.specs.Selection.{Selection, Agree, odd_of}
 use Rattle.rsb_integer.specs.declared.integer.Integer.{Ghosts as Elements}
-use Rattle.rsb_streams.specs.Rows.{asking}
-use Rattle.rsb_streams.specs.Stream.{Outcomes, HasSortedStarts, SomeOutcome, unless}
+use Rattle.rsb_streams.specs.Rows.{stream_asking}
+use Rattle.rsb_streams.specs.Stream.{Outcomes, HasSortedStarts, SomeOutcome, outcomes_unless}
 use Rattle.rsb_streams.specs.declared.draw.Draw.{Ghosts as Stream}
 use Rattle.rsb_streams.specs.declared.odd_pieces.OddPieces.{OddPieces}
 
@@ -48,8 +48,8 @@ begun_from rank start None = []
 begun_from rank start (Some end) = record { first = rank start; last = rank end } ∷ []
 
 -- The rest of the range that has begun and not ended.
-abbrev pub pending : {T I : Type 0} → (T → ℕ) → OddPieces T I → List Interval
-pending rank s = begun_from rank s.start s.end
+abbrev pub pending_rest : {T I : Type 0} → (T → ℕ) → OddPieces T I → List Interval
+pending_rest rank s = begun_from rank s.start s.end
 
 -- The ranks past the lesser of two ends, up to the greater.
 abbrev pub past_both : {T : Type 0} → (T → ℕ) → T → T → Interval
@@ -76,8 +76,8 @@ abbrev pub HasOneEnd : {T : Type 0} → List (Option T) → Type 0
 HasOneEnd ends = ends ≡ ends_in (first_end ends)
 
 -- The state of the pieces with the first end in a vector as the pending one.
-abbrev pub holding : {T I : Type 0} → OddPieces T I → List (Option T) → OddPieces T I
-holding s ends =
+abbrev pub with_pending : {T I : Type 0} → OddPieces T I → List (Option T) → OddPieces T I
+with_pending s ends =
     record { iter = s.iter; done = s.done; start = s.start; end = first_end ends }
 
 -- ---- what is pending after a draw
@@ -105,13 +105,13 @@ module _ {T N I : Type 0} (integer : Elements T N) (stream : Stream I T N) where
   pub record IsGoing (s : OddPieces T I) : Type 0 where
     pub callable : stream.can_draw s.iter
     pub twofold : (given : List Interval) → stream.may_give s.iter given
-        → IsTwofold integer.value_count (pending integer.rank s ++ given)
+        → IsTwofold integer.value_count (pending_rest integer.rank s ++ given)
 
   -- The pieces of the ranks in an odd number of ranges, counting the pending one and those to come.
   -- Once the source has ended and all was given, there are none.
   abbrev pub odd_may_give : OddPieces T I → Outcomes
-  odd_may_give s = unless s.done
-      (pieces_of integer.value_count (pending integer.rank s) (stream.may_give s.iter))
+  odd_may_give s = outcomes_unless s.done
+      (pieces_of integer.value_count (pending_rest integer.rank s) (stream.may_give s.iter))
 
   -- The greatest number of pieces left: one for each range that is pending or still to come.
   abbrev pub odd_remaining : OddPieces T I → Count
@@ -129,8 +129,8 @@ module _ {T N I : Type 0} (integer : Elements T N) (stream : Stream I T N) where
         (Yields stream.draw_gives s.iter drawn t.iter)
     pub ended : IfNone item (t.done ≡ true)
     pub none : t.done ≡ true → t.end ≡ None
-    pub left : IsLeft (pending integer.rank s ++ intervals_of integer.rank drawn)
-        (rank_after integer.rank item) (pending integer.rank t)
+    pub left : IsLeft (pending_rest integer.rank s ++ intervals_of integer.rank drawn)
+        (rank_after integer.rank item) (pending_rest integer.rank t)
 
   -- Whether a draw takes such ranges, or does nothing because the source has ended.
   abbrev pub TakesForPiece : OddPieces T I → Option (RangeInclusive T) → OddPieces T I → Type 0
@@ -138,5 +138,5 @@ module _ {T N I : Type 0} (integer : Elements T N) (stream : Stream I T N) where
 
   -- The pieces of a source, as a stream. It is ready while it is going, and after all was given.
   abbrev pub odd_pieces : Stream (OddPieces T I) T N
-  odd_pieces = asking integer TakesForPiece (λ s. s.done ≡ false → IsGoing s) odd_remaining
+  odd_pieces = stream_asking integer TakesForPiece (λ s. s.done ≡ false → IsGoing s) odd_remaining
       odd_may_give

@@ -10,7 +10,7 @@ use Rattle.rsb_integer.specs.Runs.{Interval, IsCanonicalIn}
 use Rattle.rsb_streams.specs.Adapters.{IsSkipped, part_of}
 use Rattle.rsb_streams.specs.Fused.{fuse_can_next, fuse_may_give}
 use Rattle.rsb_streams.specs.StreamLaws.{settled_canonical_in, settled_sorted}
-use Rattle.rsb_streams.specs.Stream.{Outcomes, ◌⊆◌, HasSortedStarts, Keeps, unless}
+use Rattle.rsb_streams.specs.Stream.{Outcomes, ◌⊆◌, HasSortedStarts, Keeps, outcomes_unless}
 use Rattle.rsb_streams.specs.Sublists.{IsSublist}
 use Rattle.rsb_streams.specs.SublistsLaws.{sublist-after, sublist-all, sublist-canonical, sublist-drop, sublist-front, sublist-none, sublist-sorted, sublist-take}
 
@@ -89,7 +89,7 @@ module _ (n : ℕ) {Part : List Interval → List Interval → Type 0} (part : I
 
 -- A `Fuse` over a canonical stream is canonical. By cases on whether it has ended.
 fuse-canonical_by : (n : ℕ) (done : Bool) (P : Outcomes) → (done ≡ false → P ⊆ IsCanonicalIn n)
-    → unless done P ⊆ IsCanonicalIn n
+    → outcomes_unless done P ⊆ IsCanonicalIn n
 fuse-canonical_by n true P canonical runs may =
     rw may (tt, All-nil (λ (run : Interval). run.last < n))
 fuse-canonical_by n false P canonical runs may = canonical refl runs may

@@ -7,7 +7,7 @@ use Rattle.std.specs.Option.{option_len}
 use Rattle.rsb_integer.specs.Rank.{interval_of}
 use Rattle.rsb_integer.specs.Runs.{Interval}
 use Rattle.rsb_integer.specs.declared.integer.Integer.{Ghosts as Elements}
-use Rattle.rsb_streams.specs.Fused.{fused, Fused, fused_steps}
+use Rattle.rsb_streams.specs.Fused.{fused_stream, Fused, fused_steps}
 use Rattle.rsb_streams.specs.Lookahead.{Input}
 use Rattle.rsb_streams.specs.Stream.{◌⊆◌, after, HasSortedStarts, Outcomes}
 use Rattle.rsb_streams.specs.declared.draw.Draw.{Ghosts as Stream}
@@ -48,11 +48,11 @@ pub record PutBackSteps {T I : Type 0} (steps : I → Option (RangeInclusive T) 
 module _ {T N I : Type 0} (integer : Elements T N) (stream : Stream I T N) where
   -- The held range, if there is one, followed by what the stream may give.
   abbrev pub put_back_may_give : PutBack T I → Outcomes
-  put_back_may_give s = after integer.rank s.held ((fused stream).may_give (fused_of s))
+  put_back_may_give s = after integer.rank s.held ((fused_stream stream).may_give (fused_of s))
 
   -- Whether the stream is ready, and what is held or still to come is sorted by start.
   pub record PutBackReady (s : PutBack T I) : Type 0 where
-    pub callable : (fused stream).can_draw (fused_of s)
+    pub callable : (fused_stream stream).can_draw (fused_of s)
     pub sorted : put_back_may_give s ⊆ HasSortedStarts integer.value_count
 
   -- The stream to which a range may be put back. At most as many ranges are left as in the stream,
@@ -62,7 +62,7 @@ module _ {T N I : Type 0} (integer : Elements T N) (stream : Stream I T N) where
     can_draw = PutBackReady;
     draw_gives = PutBackSteps stream.draw_gives;
     draws_left = λ s. count_map (λ left. left + option_len s.held)
-        ((fused stream).draws_left (fused_of s));
+        ((fused_stream stream).draws_left (fused_of s));
     may_give = put_back_may_give;
   }
 
@@ -70,5 +70,5 @@ module _ {T N I : Type 0} (integer : Elements T N) (stream : Stream I T N) where
   abbrev pub input_of : PutBack T I → Input
   input_of s = record {
     held = held_list integer.rank s.held;
-    undrawn = (fused stream).may_give (fused_of s);
+    undrawn = (fused_stream stream).may_give (fused_of s);
   }

@@ -5,7 +5,7 @@ use Rattle.std.specs.declared.ops.RangeInclusive.{RangeInclusive}
 use Rattle.rsb_integer.specs.Rank.{interval_of}
 use Rattle.rsb_integer.specs.Runs.{Interval}
 use Rattle.rsb_integer.specs.declared.integer.Integer.{Ghosts as Elements}
-use Rattle.rsb_streams.specs.Fused.{fused, Fused}
+use Rattle.rsb_streams.specs.Fused.{fused_stream, Fused}
 use Rattle.rsb_streams.specs.FusedLaws.{fused-answered, fused-keeps}
 use Rattle.rsb_streams.specs.PutBack.{fused_of, put_back}
 use Rattle.rsb_streams.specs.Rows.{IsAnswered, IsSorted}
@@ -19,11 +19,11 @@ module _ {T N I : Type 0} (integer : Elements T N) (stream : Stream I T N) where
     -- A call fits what may be given. By cases on whether a range was held.
     answers-by : (held : Option (RangeInclusive T)) (s t : Fused I)
         (item : Option (RangeInclusive T))
-        → MatchOption held ((fused stream).draw_gives s item t)
+        → MatchOption held ((fused_stream stream).draw_gives s item t)
         (λ range. (item ≡ Some range) × (t ≡ s))
-        → MatchOption item (after rank held ((fused stream).may_give s) [])
-        (λ range. (rest : List Interval) → (fused stream).may_give t rest
-        → after rank held ((fused stream).may_give s) (interval_of rank range ∷ rest))
+        → MatchOption item (after rank held ((fused_stream stream).may_give s) [])
+        (λ range. (rest : List Interval) → (fused_stream stream).may_give t rest
+        → after rank held ((fused_stream stream).may_give s) (interval_of rank range ∷ rest))
     answers-by None s t None call = fused-answered integer stream answers s t None call
     answers-by None s t (Some range) call =
         fused-answered integer stream answers s t (Some range) call
@@ -32,7 +32,7 @@ module _ {T N I : Type 0} (integer : Elements T N) (stream : Stream I T N) where
         let is = call.0 in
         let same : range ≡ held = cc in (
           rest,
-          subst (λ state. (fused stream).may_give state rest) call.1 may,
+          subst (λ state. (fused_stream stream).may_give state rest) call.1 may,
           ap (λ each. interval_of rank each ∷ rest) same,
         )
 
@@ -42,13 +42,14 @@ module _ {T N I : Type 0} (integer : Elements T N) (stream : Stream I T N) where
         answers-by s.held (fused_of s) (fused_of t) None call.call
     put_back-answered s t (Some range) call = λ rest may.
         answers-by s.held (fused_of s) (fused_of t) (Some range) call.call rest
-        (subst (λ held. after rank held ((fused stream).may_give (fused_of t)) rest) call.room may)
+        (subst (λ held. after rank held ((fused_stream stream).may_give (fused_of t)) rest)
+        call.room may)
 
   module _ (sorted : IsSorted integer stream) where
     -- Something may be given, whether a range is held or not.
     some-by : (held : Option (RangeInclusive T)) (s : Fused I)
-        → HasOutcome ((fused stream).may_give s)
-        → HasOutcome (after rank held ((fused stream).may_give s))
+        → HasOutcome ((fused_stream stream).may_give s)
+        → HasOutcome (after rank held ((fused_stream stream).may_give s))
     some-by None s some = some
     some-by (Some range) s some =
         λ never. some (λ runs may. never (interval_of rank range ∷ runs) (runs, may, refl))

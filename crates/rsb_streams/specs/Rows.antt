@@ -29,9 +29,9 @@ abbrev pub IsDisjoint : {S T N : Type 0} → Elements T N → Stream S T N → T
 IsDisjoint integer stream = KeepsLaw (IsCanonicalIn integer.value_count) stream
 
 -- A stream whose draws fit what may be given. After `None`, it is ready, and nothing comes.
-abbrev pub answering : {S T N : Type 0} → Elements T N → (S → Type 0) → (S → Count)
+abbrev pub stream_answering : {S T N : Type 0} → Elements T N → (S → Type 0) → (S → Count)
     → (S → Outcomes) → Stream S T N
-answering integer can_draw draws_left may_give = record {
+stream_answering integer can_draw draws_left may_give = record {
   can_draw = can_draw;
   draw_gives = AnswersAndRests integer.rank can_draw may_give;
   draws_left = draws_left;
@@ -40,9 +40,10 @@ answering integer can_draw draws_left may_give = record {
 
 -- Such a stream, whose draws also satisfy `asks`: what they ask of the streams that it is built
 -- from.
-abbrev pub asking : {S T N : Type 0} → Elements T N → (S → Option (RangeInclusive T) → S → Type 0)
+abbrev pub stream_asking : {S T N : Type 0} → Elements T N
+    → (S → Option (RangeInclusive T) → S → Type 0)
     → (S → Type 0) → (S → Count) → (S → Outcomes) → Stream S T N
-asking integer asks can_draw draws_left may_give = record {
+stream_asking integer asks can_draw draws_left may_give = record {
   can_draw = can_draw;
   draw_gives = AnswersAndAsks integer.rank can_draw may_give asks;
   draws_left = draws_left;
@@ -50,8 +51,8 @@ asking integer asks can_draw draws_left may_give = record {
 }
 
 -- The stream whose draws are those of a part of its state.
-abbrev pub through : {S P T N : Type 0} → (S → P) → Stream P T N → Stream S T N
-through part stream = record {
+abbrev pub stream_through : {S P T N : Type 0} → (S → P) → Stream P T N → Stream S T N
+stream_through part stream = record {
   can_draw = λ s. stream.can_draw (part s);
   draw_gives = λ s item t. stream.draw_gives (part s) item (part t);
   draws_left = λ s. stream.draws_left (part s);

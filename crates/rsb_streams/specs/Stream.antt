@@ -60,8 +60,8 @@ SomeOutcomes P Q Fact = ¬ ((left right : List Interval) → P left → Q right 
 -- ---- outcomes built from others, in a type of n values
 
 -- The runs of the members of what was given.
-abbrev pub joined : ℕ → Outcomes → Outcomes
-joined n P runs = SomeOutcome P (λ given. AreRuns n (members given) runs)
+abbrev pub joined_runs : ℕ → Outcomes → Outcomes
+joined_runs n P runs = SomeOutcome P (λ given. AreRuns n (members given) runs)
 
 -- The runs of a set built from what was given.
 abbrev pub runs_by : ℕ → (Selection → Selection) → Outcomes → Outcomes
@@ -82,8 +82,8 @@ abbrev pub run_if_any : Interval → List Interval
 run_if_any run = cond (nat_le run.first run.last) (run ∷ []) []
 
 -- The outcomes, or only the empty list if the stream is done.
-abbrev pub unless : Bool → Outcomes → Outcomes
-unless done P runs = MatchBool done (runs ≡ []) (P runs)
+abbrev pub outcomes_unless : Bool → Outcomes → Outcomes
+outcomes_unless done P runs = MatchBool done (runs ≡ []) (P runs)
 
 -- The held range, if there is one, followed by what else may be given.
 abbrev pub after : {T : Type 0} → (T → ℕ) → Option (RangeInclusive T) → Outcomes → Outcomes

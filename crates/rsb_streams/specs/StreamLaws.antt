@@ -8,10 +8,10 @@ use Rattle.std.specs.declared.ops.RangeInclusive.{RangeInclusive}
 use Rattle.rsb_integer.specs.Runs.{Interval, members, AllEndBelow, AreRuns, IsCanonicalFrom, IsCanonicalIn}
 use Rattle.rsb_integer.specs.Selection.{Selection}
 use Rattle.rsb_integer.specs.declared.integer.Integer.{Ghosts as Elements}
-use Rattle.rsb_integer.proofs.ListLemmas.{true_or_false}
-use Rattle.rsb_integer.proofs.CanonicalLemmas.{canonical-lower}
-use Rattle.rsb_integer.proofs.MembersLemmas.{members-below, members-head, members-tail, covers-cases}
-use Rattle.rsb_integer.proofs.RunsLemmas.{runs-from_canonical}
+use Rattle.rsb_integer.proofs.lemmas.List.{true_or_false}
+use Rattle.rsb_integer.proofs.lemmas.Canonical.{canonical-lower}
+use Rattle.rsb_integer.proofs.lemmas.Members.{members-below, members-head, members-tail, covers-cases}
+use Rattle.rsb_integer.proofs.lemmas.Runs.{runs-from_canonical}
 use Rattle.rsb_streams.specs.Rows.{IsDisjoint, IsSorted}
 use Rattle.rsb_streams.specs.Stream.{Outcomes, HasSortedStartsFrom, HasSortedStarts, IsDrawn, Keeps}
 use Rattle.rsb_streams.specs.Touching.{IsSpacedFrom, IsSpacedIn}

@@ -2,7 +2,7 @@
 use Rattle.std.proofs.Common.{ℕ, zero, suc, ◌+◌, ◌<◌, List, [], ◌∷◌, ◌++◌, take, drop, refl, inl, inr, arith}
 use Rattle.std.proofs.lemmas.List.Elements.{All-cons, All-head, All-nil, All-tail}
 use Rattle.rsb_integer.specs.Runs.{Interval, AllEndBelow, IsCanonicalFrom, IsCanonicalIn}
-use Rattle.rsb_integer.proofs.CanonicalLemmas.{canonical-lower}
+use Rattle.rsb_integer.proofs.lemmas.Canonical.{canonical-lower}
 use Rattle.rsb_streams.specs.StreamLaws.{sorted-lower}
 use Rattle.rsb_streams.specs.Stream.{HasSortedStarts, HasSortedStartsFrom}
 use Rattle.rsb_streams.specs.Sublists.{IsSublist}

@@ -2,7 +2,7 @@
 use Rattle.rsb_integer.specs.declared.integer.Integer.{Ghosts as Elements}
 use Rattle.rsb_streams.specs.Lookahead.{at_side, same_side, Input, Side}
 use Rattle.rsb_streams.specs.Merge.{merge, merge_inputs}
-use Rattle.rsb_streams.specs.Rows.{asking}
+use Rattle.rsb_streams.specs.Rows.{stream_asking}
 use Rattle.rsb_streams.specs.UnionIter.{joined_inputs, union_iter, AsksAhead, JoinsUndrawn}
 use Rattle.rsb_streams.specs.declared.draw.Draw.{Ghosts as Stream}
 use Rattle.rsb_streams.specs.declared.merge.Merge.{Merge}
@@ -17,7 +17,7 @@ module _ {T N L R : Type 0} (integer : Elements T N) (left : Stream L T N)
 
   -- The union: a draw looks at most one range ahead in each stream.
   abbrev pub union : Stream (Union T L R) T N
-  union = asking integer
+  union = stream_asking integer
       (λ s item t. AsksAhead same_side integer (merge_inputs integer left right) s.iter item t.iter)
       (λ s. joined_merge.can_draw s.iter)
       (λ s. joined_merge.draws_left s.iter)

@@ -3,19 +3,19 @@ use Rattle.std.proofs.Common.{ℕ, List}
 use Rattle.std.specs.Iterator.{Count}
 use Rattle.rsb_integer.specs.Runs.{Interval, members, IsCanonicalIn}
 use Rattle.rsb_integer.specs.declared.integer.Integer.{Ghosts as Elements}
-use Rattle.rsb_integer.proofs.RunsLemmas.{runs-canonical}
+use Rattle.rsb_integer.proofs.lemmas.Runs.{runs-canonical}
 use Rattle.rsb_streams.specs.StreamLaws.{runs-exist, settled_canonical_in}
 use Rattle.rsb_streams.specs.PutBack.{put_back}
 use Rattle.rsb_streams.specs.PutBackLaws.{put_back-sorted}
 use Rattle.rsb_streams.specs.Rows.{IsDisjoint, IsSorted}
-use Rattle.rsb_streams.specs.Stream.{Outcomes, joined, HasSortedStarts, Keeps}
+use Rattle.rsb_streams.specs.Stream.{Outcomes, joined_runs, HasSortedStarts, Keeps}
 use Rattle.rsb_streams.specs.UnionIter.{union_iter}
 use Rattle.rsb_streams.specs.declared.draw.Draw.{Ghosts as Stream}
 
 -- If something may be given, it has runs, and these are canonical.
 pub joined-keeps : (n : ℕ) (law : List Interval → Type 0) (P : Outcomes) (remaining : Count)
     → Keeps law P remaining
-    → Keeps (IsCanonicalIn n) (joined n P) remaining
+    → Keeps (IsCanonicalIn n) (joined_runs n P) remaining
 joined-keeps n law P remaining kept = record {
   some = λ never. kept.some (λ given may.
       let runs = runs-exist n (members given) in

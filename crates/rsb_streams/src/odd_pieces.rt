@@ -21,7 +21,7 @@ ghost use Rattle.rsb_streams.specs.OddPieces.{
   ends_in,
   ends_of,
   first_end,
-  holding,
+  with_pending,
   odd_pieces,
   past_both,
   HasOneEnd,
@@ -117,15 +117,15 @@ impl<T: Integer, I: Draw<T>> OddPieces<T, I> {
     fn next_piece(&mut self, ends: &mut ArrayVec<Option<T>, 2>) -> Option<RangeInclusive<T>>
         requires undone { self.old.done ≡ false }
         requires ready { (odd_pieces T.Integer.own I.Draw).can_draw
-            (holding self.old ends.old.items) }
+            (with_pending self.old ends.old.items) }
         requires one { HasOneEnd ends.old.items }
         ensures one { HasOneEnd ends.new.items }
         ensures ended { IfNone result (ends.new.items ≡ []) }
         ensures steps { (odd_pieces T.Integer.own I.Draw).draw_gives
-            (holding self.old ends.old.items) result (holding self.new ends.new.items) }
+            (with_pending self.old ends.old.items) result (with_pending self.new ends.new.items) }
         ensures goes { MakesProgress (odd_pieces T.Integer.own I.Draw).can_draw
             (odd_pieces T.Integer.own I.Draw).draws_left
-            (holding self.old ends.old.items) result (holding self.new ends.new.items) }
+            (with_pending self.old ends.old.items) result (with_pending self.new ends.new.items) }
     {
         while let Some(range) = self.iter.draw() {
             let (next, next_end) = range.into_inner();

@@ -1,7 +1,7 @@
 //! Streams of ranges that ascend and may touch (docs/DECISIONS.md, touching-apart).
 
 ghost use Rattle.rsb_streams.specs.PutBack.{IsFresh};
-ghost use Rattle.rsb_streams.specs.Stream.{◌⊆◌, joined};
+ghost use Rattle.rsb_streams.specs.Stream.{◌⊆◌, joined_runs};
 ghost use Rattle.rsb_streams.specs.Touching.{IsTouchingIn};
 
 use crate::draw::Draw;
@@ -23,7 +23,7 @@ pub trait SortedTouching<T: Integer>: SortedStarts<T> {
         requires { Self.can_draw self }
         ensures ready { ⟦<UnionIter<T, Self> as Draw<T>>⟧.can_draw result }
         ensures gives { ⟦<UnionIter<T, Self> as Draw<T>>⟧.may_give result
-            ⊆ joined T.value_count (Self.may_give self) }
+            ⊆ joined_runs T.value_count (Self.may_give self) }
         ensures new { IsFresh self result.iter }
     {
         UnionIter::new(self)

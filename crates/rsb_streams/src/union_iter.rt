@@ -3,7 +3,7 @@
 ghost use Rattle.std.specs.Prelude.{◌≡◌};
 ghost use Rattle.rsb_streams.specs.PutBack.{IsFresh};
 ghost use Rattle.rsb_streams.specs.Results.{MakesUnionIter};
-ghost use Rattle.rsb_streams.specs.Stream.{◌⊆◌, joined};
+ghost use Rattle.rsb_streams.specs.Stream.{◌⊆◌, joined_runs};
 ghost use Rattle.rsb_streams.specs.StreamLaws.{canonical_stream-starts, drawn-itself};
 ghost use Rattle.rsb_streams.specs.UnionIter.{union_iter};
 ghost use Rattle.rsb_streams.specs.UnionIterLaws.{union_iter-disjoint};
@@ -49,7 +49,7 @@ impl<T: Integer, SS: Draw<T>> UnionIter<T, SS> {
         requires { SS.can_draw iter }
         ensures ready { ⟦<UnionIter<T, SS> as Draw<T>>⟧.can_draw result }
         ensures gives { ⟦<UnionIter<T, SS> as Draw<T>>⟧.may_give result
-            ⊆ joined T.value_count (SS.may_give iter) }
+            ⊆ joined_runs T.value_count (SS.may_give iter) }
         ensures new { IsFresh iter result.iter }
     {
         UnionIter::over(iter)

@@ -1,8 +1,15 @@
 //! An allocator that counts its calls, and that can fail from a given call onwards. A heap of
 //! bounded size can do neither.
 
-use std::alloc::{AllocError, Allocator};
+use range_set_blaze::RangeSetBlaze;
+use std::alloc::{AllocError, Allocator, Global};
 use std::cell::Cell;
+
+/// A heap over ample memory, which counts its calls.
+pub type Heap = Counting<Global>;
+
+/// A set in such a heap.
+pub type HeapSet<'a> = RangeSetBlaze<i32, &'a Heap>;
 
 /// What an allocator was asked for, and how many more allocations it grants.
 #[derive(Drop)]

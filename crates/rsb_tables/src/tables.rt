@@ -20,6 +20,18 @@ pub fn set_of(alloc: Global, ranges: &[(i32, i32)]) -> Result<RangeSetBlaze<i32>
         .collect(alloc)
 }
 
+/// Returns the set of the ranges of a table, in any allocator.
+pub fn set_in<A: Allocator + Copy>(
+    alloc: A,
+    ranges: Table<'_>,
+) -> Result<RangeSetBlaze<i32, A>, AllocError> {
+    let mut set = RangeSetBlaze::new(alloc);
+    for (start, end) in ranges {
+        set.ranges_insert(*start..=*end)?;
+    }
+    Ok(set)
+}
+
 /// Returns the runs of a set as a table.
 pub fn runs_of<A: Allocator + Copy>(
     alloc: Global,
@@ -30,6 +42,24 @@ pub fn runs_of<A: Allocator + Copy>(
         runs.push((*range.start(), *range.end()))?;
     }
     Ok(runs)
+}
+
+/// Returns whether a set has exactly the runs with these ends, and counts them and their members.
+pub fn has<A: Allocator>(set: &RangeSetBlaze<i32, A>, wanted: Table<'_>) -> bool {
+    set.ranges_len() == wanted.len()
+        && set.len() == values_in(wanted)
+        && gives(set.ranges(), wanted)
+}
+
+/// Returns the number of values of the ranges of a table.
+pub fn values_in(table: Table<'_>) -> u64 {
+    let mut members = 0u64;
+    for (start, end) in table {
+        members = members
+            .saturating_add(u64::from(end.abs_diff(*start)))
+            .saturating_add(1);
+    }
+    members
 }
 
 /// Returns whether a stream gives exactly the ranges with these ends. It requires only `Draw` of

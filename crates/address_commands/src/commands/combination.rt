@@ -14,8 +14,10 @@ use crate::commands::lists::read_lists;
 use crate::fault::Fault;
 use crate::inputs::Inputs;
 use crate::request::Combination;
-use crate::selection::{at_least, common, complement, except, odd, union, v4_ranges, v6_ranges};
 use crate::writing::write_streams;
+use address_lists::selection::{
+    at_least, common, complement, except, odd, union, v4_ranges, v6_ranges,
+};
 use address_lists::{AddressList, Operation};
 use range_set_blaze::{Draw, DrawDisjoint};
 use std::alloc::{AllocError, Allocator};

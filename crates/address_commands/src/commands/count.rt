@@ -11,8 +11,8 @@ use crate::commands::lists::read_lists;
 use crate::fault::Fault;
 use crate::inputs::Inputs;
 use crate::request::Families;
-use address_lists::{Address, AddressList, IntoBlocks, Operation, combine};
-use range_set_blaze::{RangeSetBlaze, UIntPlusOne};
+use address_lists::{Address, AddressList, AddressSet, IntoBlocks, Operation, combine};
+use range_set_blaze::UIntPlusOne;
 use std::alloc::Allocator;
 use std::fmt::Display;
 use std::io::{self, Write};
@@ -64,7 +64,7 @@ fn write_list_counts<W: Write, A: Allocator>(
 // Writes how many IPv4 addresses and blocks a set has.
 fn write_v4_count<W: Write, A: Allocator>(
     output: &mut W,
-    set: &RangeSetBlaze<u32, A>,
+    set: &AddressSet<u32, A>,
 ) -> io::Result<()>
     ensures { OnOk result ((text : List ℕ) × IsCountText (codes "IPv4") 32 set.now text
         × Appends (W.contents output.old) (W.contents output.new) text) }
@@ -75,7 +75,7 @@ fn write_v4_count<W: Write, A: Allocator>(
 // Writes how many IPv6 addresses and blocks a set has.
 fn write_v6_count<W: Write, A: Allocator>(
     output: &mut W,
-    set: &RangeSetBlaze<u128, A>,
+    set: &AddressSet<u128, A>,
 ) -> io::Result<()>
     ensures { OnOk result ((text : List ℕ) × IsCountText (codes "IPv6") 128 set.now text
         × Appends (W.contents output.old) (W.contents output.new) text) }
@@ -103,7 +103,7 @@ fn write_count<W: Write, N: Display + Drop>(
 }
 
 // Returns how many blocks a set has, or 2^64 - 1 if it has more.
-fn block_count<T: Address + 'static, A: Allocator>(set: &RangeSetBlaze<T, A>) -> u64
+fn block_count<T: Address + 'static, A: Allocator>(set: &AddressSet<T, A>) -> u64
     ensures canonical { IsCanonicalIn T.value_count set.now }
     ensures count { (blocks : List Interval) × AreMaximalBlocks (members set.now) blocks
         × (result ≡ min (length blocks) (2 ^ 64 - 1)) }

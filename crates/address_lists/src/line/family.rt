@@ -50,6 +50,7 @@ impl Family for u32 {
         }
     }
 
+    #[inline(always)]
     fn read(bytes: &[u8]) -> Option<(u32, &[u8])> {
         let (a, rest) = octet(bytes)?;
         let (b, rest) = octet(after(rest, b'.')?)?;
@@ -76,6 +77,7 @@ impl Family for u128 {
     }
 
     // A spelling that ends in an IPv4 address is not read here.
+    #[inline(always)]
     fn read(bytes: &[u8]) -> Option<(u128, &[u8])> {
         let first = read_groups(bytes);
         if first.count == 8 {

@@ -19,6 +19,7 @@ pub(crate) struct Groups<'a> {
 }
 
 /// Reads groups at the front of bytes, up to eight.
+#[inline(always)]
 pub(crate) fn read_groups(bytes: &[u8]) -> Groups<'_>
     ensures { AreGroups bytes.now result }
 {
@@ -41,6 +42,7 @@ pub(crate) fn read_groups(bytes: &[u8]) -> Groups<'_>
 }
 
 /// Returns the number of eight groups: the first ones, zeros, and the last ones.
+#[inline(always)]
 pub(crate) fn elided(first: Groups<'_>, last: Groups<'_>) -> u128
     requires room { first.count + last.count < 8 }
     requires first_fits { first.number < 2 ^ (16 * first.count) }
@@ -55,6 +57,7 @@ pub(crate) fn elided(first: Groups<'_>, last: Groups<'_>) -> u128
 
 // Reads a group at the front of bytes, after a colon unless it is the first. Returns its value and
 // the bytes after it.
+#[inline(always)]
 fn next_group(bytes: &[u8], is_first: bool) -> Option<(u32, &[u8])>
     ensures fits { IfSome result (λ read. read.0 < 2 ^ 16) }
     ensures front { IfSome result (λ read.
@@ -68,6 +71,7 @@ fn next_group(bytes: &[u8], is_first: bool) -> Option<(u32, &[u8])>
 
 // Reads one to four hexadecimal digits at the front of bytes. Returns their value and the bytes
 // after them.
+#[inline(always)]
 fn group(bytes: &[u8]) -> Option<(u32, &[u8])>
     ensures fits { IfSome result (λ read. read.0 < 2 ^ 16) }
     ensures front { IfSome result (λ read. BeginsWith IsGroup bytes.now read.0 read.1.now) }
@@ -88,6 +92,7 @@ fn group(bytes: &[u8]) -> Option<(u32, &[u8])>
 }
 
 // Reads a hexadecimal digit at the front of bytes. Returns its value and the bytes after it.
+#[inline(always)]
 fn hex_digit(bytes: &[u8]) -> Option<(u32, &[u8])>
     ensures { IfSome result (λ read. BeginsWithDigit bytes.now read.0 read.1.now) }
 {

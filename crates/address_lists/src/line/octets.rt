@@ -4,6 +4,7 @@ ghost use Rattle.std.specs.Prelude.{◌≡◌, ◌+◌, ◌<◌, ◌++◌, ◌�
 
 /// Reads the byte at the front of bytes. Returns the bytes after it, or `None` if there is another
 /// byte or none.
+#[inline(always)]
 pub(crate) fn after(bytes: &[u8], byte: u8) -> Option<&[u8]>
     ensures { IfSome result (λ rest. bytes.now ≡ byte ∷ rest.now) }
 {
@@ -15,6 +16,7 @@ pub(crate) fn after(bytes: &[u8], byte: u8) -> Option<&[u8]>
 
 /// Reads a number below 256 in decimal, without a leading zero, at the front of bytes. Returns the
 /// number and the bytes after it.
+#[inline(always)]
 pub(crate) fn octet(bytes: &[u8]) -> Option<(u8, &[u8])>
     ensures fits { IfSome result (λ read. read.0 < 256) }
     ensures front { IfSome result (λ read. bytes.now ≡ decimal read.0 ++ read.1.now) }
@@ -38,6 +40,7 @@ pub(crate) fn octet(bytes: &[u8]) -> Option<(u8, &[u8])>
 }
 
 // Reads a decimal digit at the front of bytes. Returns its value and the bytes after it.
+#[inline(always)]
 fn digit(bytes: &[u8]) -> Option<(u8, &[u8])>
     ensures below { IfSome result (λ read. read.0 < 10) }
     ensures front { IfSome result (λ read. bytes.now ≡ (48 + read.0) ∷ read.1.now) }

@@ -12,6 +12,7 @@ use std::ops::RangeInclusive;
 
 /// Reads the first line of the bytes, if it is plain and ends in them. Returns the addresses that it
 /// means and the bytes after it. `None` says nothing about the bytes.
+#[inline(always)]
 pub(crate) fn plain_line<F: Family>(bytes: &[u8]) -> Option<(RangeInclusive<F>, &[u8])>
     ensures { IfSome result (λ read. BeginsWithLine
         (λ line. WritesRange F.width F.is_address (content line) (numbers F.rank read.0))
@@ -29,6 +30,7 @@ pub(crate) fn plain_line<F: Family>(bytes: &[u8]) -> Option<(RangeInclusive<F>, 
 
 // Reads the length of a block at the front of bytes, and the line feed after it. Returns the
 // addresses of the block and the bytes after the line feed.
+#[inline(always)]
 fn plain_block<F: Family>(address: F, bytes: &[u8]) -> Option<(RangeInclusive<F>, &[u8])>
     ensures { IfSome result (λ read. EndsBlock F.width (F.rank address) bytes.now
         (numbers F.rank read.0) read.1.now) }
@@ -44,6 +46,7 @@ fn plain_block<F: Family>(address: F, bytes: &[u8]) -> Option<(RangeInclusive<F>
 
 // Reads the last address of a range at the front of bytes, and the line feed after it. Returns the
 // addresses of the range and the bytes after the line feed.
+#[inline(always)]
 fn plain_span<F: Family>(first: F, bytes: &[u8]) -> Option<(RangeInclusive<F>, &[u8])>
     ensures { IfSome result (λ read. EndsSpan F.is_address (F.rank first) bytes.now
         (numbers F.rank read.0) read.1.now) }

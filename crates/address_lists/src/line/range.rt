@@ -73,6 +73,7 @@ fn span<F: Family>(first_text: &[u8], last_text: &[u8]) -> Option<RangeInclusive
 }
 
 /// Returns the addresses that have the same first bits as the address.
+#[inline(always)]
 pub(crate) fn block_around<F: Family>(address: F, length: u32) -> RangeInclusive<F>
     requires { length ≤ F.width }
     ensures { IsBlockAround F.width length (F.rank address) (numbers F.rank result) }

@@ -1,9 +1,8 @@
 //! The ranges that the lines of a list mean, gathered before the sets are built.
 
 ghost use Rattle.std.specs.Prelude.{◌≡◌, ◌≢◌, ℕ, ◌+◌, ◌≤◌, ◌++◌, [], ◌∷◌, Err, IfOk, List, OnOk, Some, drop, length};
-ghost use Rattle.range_set_blaze.specs.Runs.{members};
 ghost use Rattle.range_set_blaze.specs.Set.{IsSetOf};
-ghost use Rattle.address_lists.specs.Gathering.{AreGathered, AreGatheredBefore, AreGatheredTo, gathered_v4, gathered_v6, range_count, range_of, spans_of};
+ghost use Rattle.address_lists.specs.Gathering.{AreGathered, AreGatheredBefore, AreGatheredTo, gathered_v4, gathered_v6, range_count};
 ghost use Rattle.address_lists.specs.Line.{IsLine, MeansV4, MeansV6, content};
 ghost use Rattle.address_lists.specs.LineParts.{Reads};
 ghost use Rattle.address_lists.specs.List.{AddsAddressesOf, IsBadLine, IsPastBadLine, LeavesPastBadLine};
@@ -11,10 +10,9 @@ ghost use Rattle.address_lists.specs.List.{AddsAddressesOf, IsBadLine, IsPastBad
 use crate::line::{Line, first_line};
 use crate::list::AddressList;
 use crate::list::fault::ListFault;
-use range_set_blaze::{Integer, RangeSetBlaze};
+use crate::set::AddressSet;
 use std::alloc::{AllocError, Allocator};
 use std::io::{self, BufRead, ErrorKind};
-use std::ops::RangeInclusive;
 
 /// The ranges that lines mean, in the order of the lines, each as its first and its last address.
 #[derive(Drop)]
@@ -36,24 +34,23 @@ impl<A: Allocator + Copy> Gathered<A> {
             number: 1,
         }
     }
-
-    /// Returns the list of the addresses of the ranges.
-    pub(crate) fn list(self, alloc: A) -> Result<AddressList<A>, AllocError>
-        ensures v4 { IfOk result (λ list. IsSetOf list.v4 (gathered_v4 self)) }
-        ensures v6 { IfOk result (λ list. IsSetOf list.v6 (gathered_v6 self)) }
-        ensures run_count { IfOk result (λ list.
-            length list.v4 + length list.v6 ≤ range_count self) }
-    {
-        let v4 = set_of(alloc, self.v4)?;
-        let v6 = set_of(alloc, self.v6)?;
-        // After these calls, the sets are known to be lists of their runs.
-        v4.ranges_len();
-        v6.ranges_len();
-        Ok(AddressList { v4, v6 })
-    }
 }
 
 impl<A: Allocator> Gathered<A> {
+    /// Returns the list of the addresses of the ranges. Does not allocate.
+    pub(crate) fn list(self) -> AddressList<A>
+        ensures v4 { IsSetOf result.v4 (gathered_v4 self) }
+        ensures v6 { IsSetOf result.v6 (gathered_v6 self) }
+        ensures run_count { length result.v4 + length result.v6 ≤ range_count self }
+    {
+        let v4 = AddressSet::of_pairs(self.v4);
+        let v6 = AddressSet::of_pairs(self.v6);
+        // After these calls, the sets are known to be lists of their runs.
+        v4.ranges_len();
+        v6.ranges_len();
+        AddressList { v4, v6 }
+    }
+
     /// Gathers the lines that the input's buffer has whole, up to the first bad one. A line that is
     /// not gathered is left in the buffer, except a bad one.
     pub(crate) fn add_buffered<R: BufRead>(&mut self, input: &mut R) -> Result<(), ListFault>
@@ -81,6 +78,7 @@ impl<A: Allocator> Gathered<A> {
     }
 
     /// Gathers what a line means. `BadLine` is returned if the line is bad, with its number.
+    #[inline(always)]
     pub(crate) fn add_line(&mut self, meaning: Option<Line>) -> Result<(), ListFault>
         ensures gathered { (line same : List ℕ) (before : List (List ℕ))
             → Reads meaning (IsLine line) → content same ≡ content line
@@ -120,6 +118,7 @@ impl<A: Allocator> Gathered<A> {
     }
 
     // Gathers the range of a line, if it means one.
+    #[inline(always)]
     fn add(&mut self, meaning: Line) -> Result<(), AllocError>
         ensures v4 { (line : List ℕ) → IsLine line meaning → OnOk result
             (AddsAddressesOf MeansV4 line (gathered_v4 self.old) (gathered_v4 self.new)) }
@@ -138,6 +137,7 @@ impl<A: Allocator> Gathered<A> {
 }
 
 // Returns the number of the line after the one with a number, or a fault if there can be none.
+#[inline(always)]
 fn next_number(number: u64) -> Result<u64, ListFault>
     ensures next { IfOk result (λ next. next ≡ number + 1) }
     ensures fault { (bad : ℕ) → result ≢ Err (ListFault.BadLine bad) }
@@ -153,24 +153,4 @@ pub(crate) fn too_many_lines() -> ListFault
     ensures { (number : ℕ) → result ≢ ListFault.BadLine number }
 {
     ListFault::Io(io::Error::from(ErrorKind::FileTooLarge))
-}
-
-// Returns the set of the values of ranges in any order, each given as a pair of its ends. They are
-// sorted here, since pairs take less time to sort than ranges.
-fn set_of<T: Integer, A: Allocator + Copy>(
-    alloc: A,
-    pairs: Vec<(T, T), A>,
-) -> Result<RangeSetBlaze<T, A>, AllocError>
-    ensures { IfOk result (λ set. IsSetOf set (members (spans_of T.rank pairs.items))) }
-{
-    let mut sorted = pairs;
-    sorted.sort_unstable_by_key(|pair| pair.0);
-    RangeSetBlaze::from_iter(alloc, sorted.into_iter().map(range_of))
-}
-
-// Returns the range between the ends in a pair.
-fn range_of<T>(pair: (T, T)) -> RangeInclusive<T>
-    ensures { result ≡ range_of pair }
-{
-    pair.0..=pair.1
 }

@@ -1,13 +1,14 @@
 //! Lists, and what they select.
 
 use super::{ListFault, read_list};
-use range_set_blaze::{Integer, RangeSetBlaze};
+use crate::blocks::Address;
+use crate::set::AddressSet;
 use std::alloc::Global;
 use std::io::{self, BufReader, ErrorKind, Read};
 use std::test::*;
 
 /// Returns whether the set has exactly these ranges.
-pub(crate) fn are<T: Integer>(set: &RangeSetBlaze<T>, wanted: &[(T, T)]) -> bool {
+pub(crate) fn are<T: Address>(set: &AddressSet<T>, wanted: &[(T, T)]) -> bool {
     if set.ranges_len() != wanted.len() {
         return false;
     }

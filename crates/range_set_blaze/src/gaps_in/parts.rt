@@ -2,7 +2,7 @@
 
 ghost use Rattle.std.specs.Prelude.{◌≡◌, [], ◌∷◌, ◌++◌, MatchOption};
 ghost use Rattle.range_set_blaze.specs.GapsIn.{gaps_left, AreGapsLeft};
-ghost use Rattle.range_set_blaze.specs.Kept.{run_of};
+ghost use Rattle.range_set_blaze.specs.Storage.{run_of};
 
 use crate::set::entries::{last_run, next_in_range};
 use crate::set::run::Run;

@@ -2,7 +2,7 @@
 //! entries of a map.
 
 ghost use Rattle.std.specs.Prelude.{◌≡◌, [], ◌∷◌, ◌++◌, MatchOption};
-ghost use Rattle.range_set_blaze.specs.Kept.{entry_of};
+ghost use Rattle.range_set_blaze.specs.Storage.{entry_of};
 ghost use Rattle.range_set_blaze.specs.Windows.{lesser_of, with_held};
 
 use crate::set::entries::{last_run, next_in_range};

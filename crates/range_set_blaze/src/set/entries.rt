@@ -2,7 +2,7 @@
 //! of each run to its end.
 
 ghost use Rattle.std.specs.Prelude.{◌≡◌, [], ◌∷◌, ◌++◌, IsNone, MatchOption};
-ghost use Rattle.range_set_blaze.specs.Kept.{entry_of};
+ghost use Rattle.range_set_blaze.specs.Storage.{entry_of};
 
 use crate::set::run::Run;
 use rsb_integer::Integer;

@@ -6,9 +6,9 @@ ghost use Rattle.rsb_integer.specs.Rank.{interval_of};
 ghost use Rattle.rsb_integer.specs.Runs.{covers, from_to, length_of, members, AllEndBelow, IsCanonicalFrom, IsCanonicalIn, IsMaximalRun};
 ghost use Rattle.rsb_integer.specs.Selection.{complement, intersection};
 ghost use Rattle.range_set_blaze.specs.FirstFit.{AllShorter, AllShorterBefore, IsFirstFit, IsFree};
-ghost use Rattle.range_set_blaze.specs.Kept.{run_of, runs_of};
+ghost use Rattle.range_set_blaze.specs.Storage.{run_of, runs_of};
 ghost use Rattle.range_set_blaze.specs.Split.{from_on};
-ghost use Rattle.range_set_blaze.specs.Starts.{past};
+ghost use Rattle.range_set_blaze.specs.Starts.{runs_past};
 
 use crate::set::RangeSetBlaze;
 use crate::set::entries::{next_in_range, next_run};

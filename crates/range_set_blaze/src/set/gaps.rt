@@ -6,8 +6,8 @@ ghost use Rattle.rsb_integer.specs.Runs.{covers, members, IsCanonicalIn};
 ghost use Rattle.rsb_integer.specs.Selection.{difference};
 ghost use Rattle.range_set_blaze.specs.FirstFit.{HasAllFrom, IsFirstFree};
 ghost use Rattle.range_set_blaze.specs.GapsIn.{HasAllTo, IsFreePart, IsLastFree};
-ghost use Rattle.range_set_blaze.specs.Joining.{Has};
-ghost use Rattle.range_set_blaze.specs.Kept.{run_of};
+ghost use Rattle.range_set_blaze.specs.Joining.{HasAll};
+ghost use Rattle.range_set_blaze.specs.Storage.{run_of};
 ghost use Rattle.range_set_blaze.specs.Set.{IsSetOf};
 
 use crate::gaps_in::GapsIn;
@@ -54,7 +54,7 @@ fn free_part<T: Integer, A: Allocator>(runs: &Runs<T, A>, window: Run<T>) -> Opt
     requires canonical { IsCanonicalIn T.value_count runs.now }
     requires order { T.rank window.start ≤ T.rank window.end }
     requires value { T.rank window.end < T.value_count }
-    ensures { MatchOption result (Has runs.now (covers (run_of T.rank window)))
+    ensures { MatchOption result (HasAll runs.now (covers (run_of T.rank window)))
         (λ part. IsFreePart runs.now (run_of T.rank window) (run_of T.rank part)) }
 {
     let start = first_free(runs, window.start)?;

@@ -5,7 +5,7 @@ ghost use Rattle.rsb_integer.specs.Rank.{interval_of, intervals_of};
 ghost use Rattle.rsb_integer.specs.Runs.{members, HasRanks};
 ghost use Rattle.rsb_streams.specs.OutOfPlace.{start_after};
 ghost use Rattle.rsb_streams.specs.UnsortedDisjoint.{IsProper};
-ghost use Rattle.range_set_blaze.specs.Kept.{run_of, IsKept};
+ghost use Rattle.range_set_blaze.specs.Storage.{run_of, IsKept};
 ghost use Rattle.range_set_blaze.specs.Set.{IsSetOf};
 
 use crate::set::RangeSetBlaze;

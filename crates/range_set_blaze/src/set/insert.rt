@@ -4,8 +4,8 @@ ghost use Rattle.std.specs.Prelude.{◌≡◌, ◌↔◌, ℕ, ◌+◌, ◌-◌,
 ghost use Rattle.std.specs.Range.Bound.{bound_map};
 ghost use Rattle.rsb_integer.specs.Runs.{covers, length_of, members, IsCanonicalIn, HasRanks};
 ghost use Rattle.rsb_integer.specs.Selection.{IsEmpty, LacksSome};
-ghost use Rattle.range_set_blaze.specs.Joining.{Has, IsHull, IsInserted, IsJoining, IsReaching, IsUnreached};
-ghost use Rattle.range_set_blaze.specs.Kept.{run_of, IsKept};
+ghost use Rattle.range_set_blaze.specs.Joining.{HasAll, IsHull, IsInserted, IsJoining, IsReaching, IsUnreached};
+ghost use Rattle.range_set_blaze.specs.Storage.{run_of, IsKept};
 ghost use Rattle.rsb_streams.specs.RunCount.{HasOneRunMoreAtMost};
 ghost use Rattle.range_set_blaze.specs.Starts.{IsLastBelow, IsLastTwo, NoneBelow};
 ghost use Rattle.range_set_blaze.specs.Set.{first_rank, only, past_rank, ranks_in, Adds, IsReached};
@@ -181,7 +181,7 @@ fn add_run<T: Integer, A: Allocator + Clone>(
     requires value { T.rank run.end < T.value_count }
     ensures unchanged { IfOk result (λ found. IsNone found → runs.new ≡ runs.old) }
     ensures within { IfOk result (λ found. IsNone found
-        → Has runs.old (covers (run_of T.rank run))) }
+        → HasAll runs.old (covers (run_of T.rank run))) }
     ensures inserted { IfOk result (λ found. IfSome found
         (λ length. IsInserted T.value_count runs.old runs.new (run_of T.rank run)
         (T.SafeLen.number length))) }
@@ -200,7 +200,7 @@ fn touched<T: Integer, A: Allocator>(runs: &Runs<T, A>, run: Run<T>) -> Option<J
     requires canonical { IsCanonicalIn T.value_count runs.now }
     requires order { T.rank run.start ≤ T.rank run.end }
     requires value { T.rank run.end < T.value_count }
-    ensures within { IsNone result → Has runs.now (covers (run_of T.rank run)) }
+    ensures within { IsNone result → HasAll runs.now (covers (run_of T.rank run)) }
     ensures hull { IfSome result (λ joining. IsHull runs.now (run_of T.rank run)
         (run_of T.rank joining.joined)) }
     ensures lacks { IfSome result (λ joining. LacksSome (members runs.now)
@@ -283,7 +283,7 @@ fn ends_in<T: Integer>(first: Option<Run<T>>, end: T) -> bool
         (λ first. IsTrue result ↔ (T.rank end ≤ T.rank first.end)) }
 {
     match first {
-        Some(first) => !is_below(first.end, end),
+        Some(first) => !first.ends_before(end),
         None => false,
     }
 }

@@ -3,13 +3,13 @@
 ghost use Rattle.std.specs.Prelude.{◌≡◌, ◌+◌, ◌<◌, ◌≤◌, ℕ, [], ◌∷◌, None, Some, IfOk, IfSome, IsOk, IsTrue, OnErr, OnOk};
 ghost use Rattle.rsb_integer.specs.Runs.{members, IsCanonicalIn};
 ghost use Rattle.rsb_integer.specs.Selection.{intersection, union, Selection};
-ghost use Rattle.range_set_blaze.specs.Kept.{run_of, runs_of};
+ghost use Rattle.range_set_blaze.specs.Storage.{run_of, runs_of};
 ghost use Rattle.range_set_blaze.specs.Retain.{left_runs, past_piece, with_piece, AnswersByRank, AsksAll, AsksFront, CallableOnMembers, IsCanonicalBelow, IsPastFirst};
 ghost use Rattle.range_set_blaze.specs.Set.{only, IsSetOf};
 
 use crate::set::RangeSetBlaze;
 use crate::set::entries::next_run;
-use crate::set::run::{Run, is_below, reaches};
+use crate::set::run::{Run, reaches};
 use crate::set::runs::Runs;
 use rsb_integer::Integer;
 use std::alloc::{AllocError, Allocator};
@@ -59,7 +59,7 @@ fn next_left<T: Integer>(entries: &mut Iter<'_, T, T>, run: Run<T>) -> Option<Ru
     ensures { IsPastFirst T.value_count (run_of T.rank run ∷ runs_of T.rank entries.old)
         (left_runs T.rank result entries.new) (T.rank run.start) }
 {
-    if is_below(run.start, run.end) {
+    if run.starts_before(run.end) {
         return Some(Run {
             start: run.start.add_one(),
             end: run.end,

@@ -2,7 +2,7 @@
 
 ghost use Rattle.std.specs.Prelude.{◌≡◌, ◌+◌, ◌≤◌};
 ghost use Rattle.rsb_integer.specs.Runs.{length_of, HasRanks};
-ghost use Rattle.range_set_blaze.specs.Kept.{run_of};
+ghost use Rattle.range_set_blaze.specs.Storage.{run_of};
 
 use crate::set::run::Run;
 use rsb_integer::Integer;

@@ -4,12 +4,12 @@ ghost use Rattle.std.specs.Prelude.{◌≡◌, ◌↔◌, ◌<◌, IfSome, IsFal
 ghost use Rattle.rsb_integer.specs.Rank.{interval_of};
 ghost use Rattle.rsb_integer.specs.Runs.{members, IsCanonicalIn};
 ghost use Rattle.rsb_integer.specs.Selection.{complement, IsUniversal};
-ghost use Rattle.range_set_blaze.specs.Kept.{run_of};
+ghost use Rattle.range_set_blaze.specs.Storage.{run_of};
 ghost use Rattle.range_set_blaze.specs.Starts.{IsGapEnd};
 ghost use Rattle.range_set_blaze.specs.Set.{IsRunAround};
 
 use crate::set::RangeSetBlaze;
-use crate::set::run::{Run, is_below, known};
+use crate::set::run::{Run, known};
 use crate::set::runs::Runs;
 use rsb_integer::Integer;
 use std::alloc::Allocator;
@@ -59,7 +59,7 @@ impl<T: Integer, A: Allocator> RangeSetBlaze<T, A> {
         let value = known(value);
         let start = match self.runs.up_to(value) {
             Some(run) => {
-                if !is_below(run.end, value) {
+                if !run.ends_before(value) {
                     return (run.start..=run.end, true);
                 }
                 run.end.add_one()
@@ -87,7 +87,7 @@ pub(crate) fn run_at<T: Integer, A: Allocator>(runs: &Runs<T, A>, value: T) -> O
         (run_of T.rank run)) }
 {
     let run = runs.up_to(value)?;
-    if is_below(run.end, value) {
+    if run.ends_before(value) {
         return None;
     }
     Some(run)

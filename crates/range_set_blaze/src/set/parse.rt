@@ -5,7 +5,7 @@ ghost use Rattle.std.specs.Char.{digit_value};
 ghost use Rattle.std.specs.declared.ops.RangeInclusive.{RangeInclusive as Range};
 ghost use Rattle.rsb_integer.specs.Rank.{intervals_of};
 ghost use Rattle.rsb_integer.specs.Runs.{members, AreRuns, Interval, IsCanonicalIn};
-ghost use Rattle.range_set_blaze.specs.Kept.{range_of};
+ghost use Rattle.range_set_blaze.specs.Storage.{range_of};
 ghost use Rattle.range_set_blaze.specs.Reading.{Finishes, Steps, start_or};
 ghost use Rattle.range_set_blaze.specs.Set.{IsSetOf};
 ghost use Rattle.range_set_blaze.specs.Text.{IsFirstUnexpected, Spells, is_blank as is_blank_byte};

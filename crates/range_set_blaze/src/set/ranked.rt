@@ -3,13 +3,13 @@
 ghost use Rattle.std.specs.Prelude.{◌≡◌, ◌↔◌, ◌+◌, ◌<◌, ◌≤◌, IfSome, IsNone, IsTrue, MatchOption};
 ghost use Rattle.rsb_integer.specs.Runs.{length_of, members, HasRanks, IsCanonicalIn};
 ghost use Rattle.rsb_integer.specs.Selection.{count};
-ghost use Rattle.range_set_blaze.specs.Kept.{run_of};
+ghost use Rattle.range_set_blaze.specs.Storage.{run_of};
 ghost use Rattle.range_set_blaze.specs.Ranked.{IsPartBelow};
 
 use crate::set::RangeSetBlaze;
 use crate::set::entries::next_run;
 use crate::set::lengths::add_length;
-use crate::set::run::{Run, is_below, known};
+use crate::set::run::{Run, known};
 use crate::set::runs::Runs;
 use num_traits::{One, Zero};
 use rsb_integer::Integer;
@@ -119,10 +119,10 @@ fn part_below<T: Integer>(run: Run<T>, value: T) -> Option<Run<T>>
     ensures { MatchOption result (T.rank value ≤ T.rank run.start)
         (λ part. IsPartBelow (run_of T.rank run) (T.rank value) (run_of T.rank part)) }
 {
-    if !is_below(run.start, value) {
+    if !run.starts_before(value) {
         return None;
     }
-    if is_below(run.end, value) {
+    if run.ends_before(value) {
         return Some(run);
     }
     let start = run.start;

@@ -3,7 +3,7 @@
 ghost use Rattle.std.specs.Prelude.{◌≡◌, ◌↔◌, ◌+◌, ◌<◌, ◌≤◌, ℕ, [], Contains, IfOk, IfSome, IsFalse, IsNone, IsOk, IsSome, IsTrue, OnErr, OnOk};
 ghost use Rattle.rsb_integer.specs.Runs.{members, IsCanonicalIn};
 ghost use Rattle.range_set_blaze.specs.BothEnds.{TakesGreatest, TakesLeast};
-ghost use Rattle.range_set_blaze.specs.Kept.{run_of, IsKept};
+ghost use Rattle.range_set_blaze.specs.Storage.{run_of, IsKept};
 ghost use Rattle.range_set_blaze.specs.Removal.{IsCutAbove, IsRemoved};
 ghost use Rattle.rsb_streams.specs.RunCount.{HasOneRunMoreAtMost};
 ghost use Rattle.range_set_blaze.specs.Set.{only, IsLeast, Removes};
@@ -117,7 +117,7 @@ fn take_value<T: Integer, A: Allocator + Clone>(
     let Some(run) = runs.up_to(value) else {
         return Ok(None);
     };
-    if is_below(run.end, value) {
+    if run.ends_before(value) {
         return Ok(None);
     }
     let piece = Run {
@@ -150,7 +150,7 @@ pub(crate) fn cut<T: Integer, A: Allocator + Clone>(
     // The part above the piece is inserted first, since this may fail to allocate
     // (docs/DECISIONS.md, insert-at-start).
     put_above(runs, run, piece.end)?;
-    if is_below(run.start, piece.start) {
+    if run.starts_before(piece.start) {
         let end = piece.start.sub_one();
         let start = run.start;
         runs.put(Run { start, end }).unwrap();

@@ -3,7 +3,7 @@
 ghost use Rattle.std.specs.Prelude.{◌≡◌, ◌↔◌, ◌+◌, ◌<◌, ◌≤◌, IfOk, IfSome, IsFalse, IsNone, IsOk, IsSome, IsTrue, MatchOption, OnErr, OnOk};
 ghost use Rattle.rsb_integer.specs.Runs.{covers, members, IsCanonicalIn};
 ghost use Rattle.rsb_integer.specs.Selection.{intersection, IsEmpty};
-ghost use Rattle.range_set_blaze.specs.Kept.{run_of, IsKept};
+ghost use Rattle.range_set_blaze.specs.Storage.{run_of, IsKept};
 ghost use Rattle.range_set_blaze.specs.RemoveRanges.{HasSome, IsCommon, IsLastMeeting, IsNarrowed, IsSameOutside, Lacks};
 ghost use Rattle.rsb_streams.specs.RunCount.{HasOneRunMoreAtMost};
 ghost use Rattle.range_set_blaze.specs.Set.{past_rank, ranks_in, Removes};
@@ -12,7 +12,7 @@ use crate::set::RangeSetBlaze;
 use crate::set::insert::run_between;
 use crate::set::lengths::take_off_length;
 use crate::set::remove::cut;
-use crate::set::run::{Run, greater, is_below};
+use crate::set::run::{Run, greater};
 use crate::set::runs::Runs;
 use rsb_integer::Integer;
 use std::alloc::{AllocError, Allocator};
@@ -120,7 +120,7 @@ pub(crate) fn last_meeting<T: Integer, A: Allocator>(
         (run_of T.rank run)) }
 {
     let run = runs.up_to(range.end)?;
-    if is_below(run.end, range.start) {
+    if run.ends_before(range.start) {
         return None;
     }
     Some(run)
@@ -180,7 +180,7 @@ fn common<T: Integer>(run: Run<T>, range: Run<T>) -> Run<T>
     ensures { IsCommon (run_of T.rank run) (run_of T.rank range) (run_of T.rank result) }
 {
     let start = greater(run.start, range.start);
-    let end = if is_below(run.end, range.end) {
+    let end = if run.ends_before(range.end) {
         run.end
     } else {
         range.end

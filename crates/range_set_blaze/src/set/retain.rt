@@ -5,7 +5,7 @@ ghost use Rattle.std.specs.List.{filter};
 ghost use Rattle.rsb_integer.specs.Runs.{Interval, members};
 ghost use Rattle.rsb_integer.specs.Selection.{intersection, IsSubset, Selection};
 ghost use Rattle.rsb_streams.specs.Sublists.{IsSublist};
-ghost use Rattle.range_set_blaze.specs.Kept.{IsKept};
+ghost use Rattle.range_set_blaze.specs.Storage.{IsKept};
 ghost use Rattle.range_set_blaze.specs.Retain.{AnswersByRank, AnswersByRun, AsksAll, AsksFront, AsksRuns, CallableOnMembers, CallableOnRuns};
 ghost use Rattle.range_set_blaze.specs.Set.{IsSetOf};
 

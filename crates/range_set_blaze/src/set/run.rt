@@ -14,6 +14,26 @@ pub(crate) struct Run<T> {
     pub(crate) end: T,
 }
 
+impl<T: Integer> Run<T> {
+    /// Returns whether the run starts below a value.
+    pub(crate) fn starts_before(self, value: T) -> bool
+        requires start { T.rank self.start < T.value_count }
+        requires value { T.rank value < T.value_count }
+        ensures { IsTrue result ↔ (T.rank self.start < T.rank value) }
+    {
+        is_below(self.start, value)
+    }
+
+    /// Returns whether the run ends below a value.
+    pub(crate) fn ends_before(self, value: T) -> bool
+        requires end { T.rank self.end < T.value_count }
+        requires value { T.rank value < T.value_count }
+        ensures { IsTrue result ↔ (T.rank self.end < T.rank value) }
+    {
+        is_below(self.end, value)
+    }
+}
+
 /// Returns the value itself. The clause `value` states that the rank of the value is below the
 /// number of values.
 pub(crate) fn known<T: Integer>(value: T) -> T

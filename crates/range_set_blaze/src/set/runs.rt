@@ -3,8 +3,8 @@
 ghost use Rattle.std.specs.Prelude.{◌≡◌, ◌↔◌, ◌+◌, ◌-◌, ◌^◌, ◌<◌, ◌≤◌, [], ◌++◌, length, slice_get, Contains, IfOk, IfSome, IsNone, IsOk, IsTrue, MatchOption, OnErr, OnOk, Some};
 ghost use Rattle.rsb_integer.specs.Rank.{intervals_of};
 ghost use Rattle.rsb_integer.specs.Runs.{Interval, IsCanonicalIn};
-ghost use Rattle.range_set_blaze.specs.Kept.{run_of, runs_of};
-ghost use Rattle.range_set_blaze.specs.Starts.{below, past, starting_from, with_run, without_start, IsLastBelow, IsLastTwo, NoneBelow, StartsWith};
+ghost use Rattle.range_set_blaze.specs.Storage.{run_of, runs_of};
+ghost use Rattle.range_set_blaze.specs.Starts.{runs_below, runs_past, starting_from, with_run, without_start, IsLastBelow, IsLastTwo, NoneBelow, StartsWith};
 ghost use Rattle.range_set_blaze.specs.Windows.{starting_within};
 
 use crate::set::entries::{last_run, next_in_range};
@@ -26,7 +26,7 @@ pub(crate) struct Runs<T: Integer, A: Allocator> {
 impl<T: Integer, A: Allocator> Model for Runs<T, A> {
     ghost use Rattle.std.specs.Prelude.{List};
     ghost use Rattle.rsb_integer.specs.Runs.{Interval};
-    ghost use Rattle.range_set_blaze.specs.Kept.{runs_of};
+    ghost use Rattle.range_set_blaze.specs.Storage.{runs_of};
     ghost use Rattle.range_set_blaze.specs.Starts.{StartsAscendFrom};
 
     ghost Value = { List Interval };
@@ -135,8 +135,8 @@ impl<T: Integer, A: Allocator> Runs<T, A> {
     /// Returns the first run that starts after a value, or `None` if there is none.
     pub(crate) fn after(&self, value: T) -> Option<Run<T>>
         requires { T.rank value < T.value_count }
-        ensures { MatchOption result (past (T.rank value) self.now ≡ [])
-            (λ run. StartsWith (past (T.rank value) self.now) (run_of T.rank run)) }
+        ensures { MatchOption result (runs_past (T.rank value) self.now ≡ [])
+            (λ run. StartsWith (runs_past (T.rank value) self.now) (run_of T.rank run)) }
     {
         next_in_range(&mut self.starting_after(value))
     }
@@ -145,7 +145,7 @@ impl<T: Integer, A: Allocator> Runs<T, A> {
     #[inline(always)]
     pub(crate) fn starting_after(&self, value: T) -> Range<'_, T, T>
         requires { T.rank value < T.value_count }
-        ensures { runs_of T.rank result ≡ past (T.rank value) self.now }
+        ensures { runs_of T.rank result ≡ runs_past (T.rank value) self.now }
     {
         self.map.range((Bound::Excluded(value), Bound::Unbounded))
     }
@@ -246,7 +246,7 @@ impl<T: Integer, A: Allocator + Clone> Runs<T, A> {
     /// are unchanged.
     pub(crate) fn split_off(&mut self, key: T) -> Result<Self, AllocError>
         requires { T.rank key < T.value_count }
-        ensures low { OnOk result (self.new ≡ below (T.rank key) self.old) }
+        ensures low { OnOk result (self.new ≡ runs_below (T.rank key) self.old) }
         ensures high { IfOk result (λ high. high ≡ starting_from (T.rank key) self.old) }
         ensures err { OnErr result (self.new ≡ self.old) }
     {

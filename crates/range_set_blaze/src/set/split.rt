@@ -3,7 +3,7 @@
 ghost use Rattle.std.specs.Prelude.{◌≡◌, ◌+◌, ◌<◌, ◌≤◌, Contains, IfOk, IsFalse, IsOk, MatchOption, OnErr, OnOk};
 ghost use Rattle.rsb_integer.specs.Runs.{members, IsCanonicalIn};
 ghost use Rattle.rsb_integer.specs.Selection.{count, intersection, IsEmpty};
-ghost use Rattle.range_set_blaze.specs.Kept.{run_of};
+ghost use Rattle.range_set_blaze.specs.Storage.{run_of};
 ghost use Rattle.range_set_blaze.specs.Set.{IsSetOf, Removes};
 ghost use Rattle.range_set_blaze.specs.Split.{from_on, IsParting, NoneOver};
 
@@ -91,7 +91,7 @@ pub(super) fn run_over<T: Integer, A: Allocator>(runs: &Runs<T, A>, key: T) -> O
 {
     let before = previous(key)?;
     let run = runs.up_to(before)?;
-    if is_below(run.end, key) {
+    if run.ends_before(key) {
         return None;
     }
     Some(run)

@@ -4,11 +4,11 @@ ghost use Rattle.std.specs.Prelude.{◌≡◌, ℕ, ◌+◌, ◌<◌, ◌≤◌,
 ghost use Rattle.rsb_integer.specs.Runs.{length_of, members, IsCanonicalIn};
 ghost use Rattle.rsb_integer.specs.Selection.{count};
 ghost use Rattle.range_set_blaze.specs.Joining.{IsInside, IsOver, KnowsInside, NoneInside};
-ghost use Rattle.range_set_blaze.specs.Kept.{run_of};
+ghost use Rattle.range_set_blaze.specs.Storage.{run_of};
 ghost use Rattle.range_set_blaze.specs.Starts.{without_start};
 
 use crate::set::lengths::take_off_length;
-use crate::set::run::{Run, is_below};
+use crate::set::run::Run;
 use crate::set::runs::Runs;
 use rsb_integer::Integer;
 use std::alloc::Allocator;
@@ -71,7 +71,7 @@ fn last_inside<T: Integer, A: Allocator>(runs: &Runs<T, A>, run: Run<T>) -> Opti
         (λ last. IsInside runs.now (run_of T.rank run) (run_of T.rank last)) }
 {
     let last = runs.up_to(run.end)?;
-    if is_below(run.start, last.start) {
+    if run.starts_before(last.start) {
         Some(last)
     } else {
         None

@@ -4,7 +4,7 @@ ghost use Rattle.std.specs.Prelude.{◌≡◌, [], ◌<◌, ◌≤◌, MatchOpti
 ghost use Rattle.rsb_integer.specs.Rank.{intervals_of};
 ghost use Rattle.rsb_integer.specs.Runs.{covers, members, AreRuns, IsCanonicalIn};
 ghost use Rattle.rsb_integer.specs.Selection.{count, difference, intersection};
-ghost use Rattle.range_set_blaze.specs.Kept.{run_of, runs_of};
+ghost use Rattle.range_set_blaze.specs.Storage.{run_of, runs_of};
 ghost use Rattle.range_set_blaze.specs.Set.{ranks_in, IsSetOf};
 ghost use Rattle.range_set_blaze.specs.Split.{NoneOver};
 ghost use Rattle.range_set_blaze.specs.Windows.{starting_within, ReachesIn};

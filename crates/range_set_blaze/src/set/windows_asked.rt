@@ -3,14 +3,14 @@
 ghost use Rattle.std.specs.Prelude.{◌↔◌, ◌<◌, ◌≤◌, IsTrue};
 ghost use Rattle.rsb_integer.specs.Runs.{covers, members, IsCanonicalIn};
 ghost use Rattle.rsb_integer.specs.Selection.{intersection, IsEmpty};
-ghost use Rattle.range_set_blaze.specs.Joining.{Has};
-ghost use Rattle.range_set_blaze.specs.Kept.{run_of};
+ghost use Rattle.range_set_blaze.specs.Joining.{HasAll};
+ghost use Rattle.range_set_blaze.specs.Storage.{run_of};
 ghost use Rattle.range_set_blaze.specs.Set.{ranks_in};
 
 use crate::set::RangeSetBlaze;
 use crate::set::insert::run_between;
 use crate::set::remove_ranges::last_meeting;
-use crate::set::run::{Run, is_below};
+use crate::set::run::Run;
 use crate::set::runs::Runs;
 use rsb_integer::Integer;
 use std::alloc::Allocator;
@@ -24,7 +24,7 @@ impl<T: Integer, A: Allocator> RangeSetBlaze<T, A> {
     /// The contract says nothing about a `RangeBounds` type whose own contract does not specify its
     /// bounds, or about a `RangeInclusive` that was iterated to its end. Not in range-set-blaze.
     pub fn contains_range<R: RangeBounds<T>>(&self, range: R) -> bool
-        ensures { R.has_bounds range → (IsTrue result ↔ Has self.now
+        ensures { R.has_bounds range → (IsTrue result ↔ HasAll self.now
             (ranks_in T.rank T.value_count R.start_bound R.end_bound range)) }
     {
         match run_between(&range) {
@@ -55,10 +55,10 @@ fn has_run<T: Integer, A: Allocator>(runs: &Runs<T, A>, range: Run<T>) -> bool
     requires canonical { IsCanonicalIn T.value_count runs.now }
     requires order { T.rank range.start ≤ T.rank range.end }
     requires value { T.rank range.end < T.value_count }
-    ensures { IsTrue result ↔ Has runs.now (covers (run_of T.rank range)) }
+    ensures { IsTrue result ↔ HasAll runs.now (covers (run_of T.rank range)) }
 {
     match runs.up_to(range.start) {
-        Some(run) => !is_below(run.end, range.end),
+        Some(run) => !run.ends_before(range.end),
         None => false,
     }
 }

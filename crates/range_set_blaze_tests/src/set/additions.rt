@@ -2,9 +2,9 @@
 //! hand.
 
 use crate::set::calls::{Answer, Change};
-use crate::set::rows::{changes, has};
+use crate::set::rows::changes;
 use range_set_blaze::RangeSetBlaze;
-use rsb_tables::{Table, set_of};
+use rsb_tables::{Table, has, set_of};
 use std::alloc::{AllocError, Global};
 use std::test::*;
 

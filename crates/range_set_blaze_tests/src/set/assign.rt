@@ -8,11 +8,9 @@ ghost use Rattle.range_set_blaze.specs.Set.{IsSetOf};
 
 use crate::set::calls::Change;
 use crate::set::refusals::changes::tried;
-use crate::set::refusals::heaps::Heap;
-use crate::set::rows::{has, set_in};
 use range_set_blaze::{Integer, RangeSetBlaze};
 use rsb_commands::outside::Side;
-use rsb_tables::{Counting, Table, gives};
+use rsb_tables::{Counting, Heap, Table, gives, has, set_in};
 use std::alloc::{AllocError, Allocator, Global};
 use std::test::*;
 

@@ -1,9 +1,8 @@
 //! The results of changes and makings, computed without sets from a flag for each value.
 
 use crate::set::calls::{Answer, Change, Making, is_kept};
-use crate::set::rows::{counted, has};
 use range_set_blaze::RangeSetBlaze;
-use rsb_tables::Table;
+use rsb_tables::{Table, has, values_in};
 use std::alloc::{AllocError, Allocator, Global};
 
 /// Values that are all in a set or all outside it, with a flag for each of two sets.
@@ -163,8 +162,8 @@ fn is_other_after(change: Change, cell: Cell) -> bool {
 
 /// Returns what a change returns if the set has these runs before and after it.
 fn answer(change: Change, before: Table<'_>, after: Table<'_>) -> Answer {
-    let members = counted(before);
-    let is_same = counted(after) == members;
+    let members = values_in(before);
+    let is_same = values_in(after) == members;
     match change {
         Change::Insert(_) | Change::RangesInsert(_, _) | Change::Remove(_) => Answer::Truth(
             !is_same,

@@ -1,9 +1,9 @@
 //! `ranges_insert`, `insert` and `replace`, on rows worked by hand.
 
 use crate::set::calls::{Answer, Change};
-use crate::set::rows::{changes, has, is_byte_run};
+use crate::set::rows::{changes, is_byte_run};
 use range_set_blaze::RangeSetBlaze;
-use rsb_tables::{Table, set_of};
+use rsb_tables::{Table, has, set_of};
 use std::alloc::{AllocError, Global};
 use std::ops::Bound;
 use std::test::*;

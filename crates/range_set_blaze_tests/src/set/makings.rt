@@ -1,12 +1,12 @@
 //! Sets built from others, from streams and from items, on rows worked by hand.
 
 use crate::set::calls::Making;
-use crate::set::rows::{has, is_byte_run, makes_of_two};
+use crate::set::rows::{is_byte_run, makes_of_two};
 use range_set_blaze::{
     CheckSortedDisjoint, DrawDisjoint, Integer, IntoRangeSetBlaze, RangeOnce, RangeSetBlaze,
     UIntPlusOne,
 };
-use rsb_tables::{Operation, Table, operation_gives, set_of};
+use rsb_tables::{Operation, Table, has, operation_gives, set_of};
 use std::alloc::{AllocError, Global};
 use std::ops::RangeInclusive;
 use std::test::*;

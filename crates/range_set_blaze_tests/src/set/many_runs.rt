@@ -2,10 +2,9 @@
 //! size.
 
 use crate::set::calls::{Change, Making, carry_out, make};
-use crate::set::rows::has;
 use range_set_blaze::{DrawDisjoint, RangeSetBlaze};
 use rsb_commands::outside::Counted;
-use rsb_tables::every_fifth;
+use rsb_tables::{every_fifth, has};
 use std::alloc::{AllocError, Global};
 use std::cell::Cell;
 use std::test::*;

@@ -3,13 +3,12 @@
 
 use crate::set::calls::{Change, carry_out};
 use crate::set::cells::{Side, runs, spaced};
-use crate::set::refusals::heaps::{Heap, HeapSet};
 use crate::set::rows::{
-    elements_given, elements_given_back, elements_given_up, ranges_given, ranges_given_up, set_in,
+    elements_given, elements_given_back, elements_given_up, ranges_given, ranges_given_up,
 };
 use range_set_blaze::laws::cmp_counted;
 use range_set_blaze::{DrawDisjoint, RangeSetBlaze};
-use rsb_tables::{Counting, fed_by};
+use rsb_tables::{Counting, Heap, HeapSet, fed_by, set_in};
 use std::alloc::{AllocError, Global};
 use std::default::MadeWith;
 use std::mem;

@@ -8,6 +8,5 @@
 mod built;
 pub(crate) mod changes;
 mod dropped;
-pub(crate) mod heaps;
 mod makings;
 mod rows;

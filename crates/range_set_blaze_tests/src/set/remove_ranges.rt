@@ -3,16 +3,15 @@
 ghost use Rattle.std.specs.Prelude.{◌↔◌, IfOk, IsTrue};
 ghost use Rattle.rsb_integer.specs.Runs.{members};
 ghost use Rattle.rsb_integer.specs.Selection.{difference, intersection, IsEmpty};
-ghost use Rattle.range_set_blaze.specs.Joining.{Has};
-ghost use Rattle.range_set_blaze.specs.Set.{between, ranks_in, IsSetOf, Removes};
+ghost use Rattle.range_set_blaze.specs.Joining.{HasAll};
+ghost use Rattle.range_set_blaze.specs.Set.{ranks_between, ranks_in, IsSetOf, Removes};
 ghost use Rattle.std.specs.declared.ops.Bound.TheVariants.{Included, Unbounded};
 
 use crate::set::calls::Change;
 use crate::set::many_runs::{change, counts};
-use crate::set::rows::has;
 use range_set_blaze::{Integer, RangeSetBlaze};
 use rsb_commands::outside::Slot;
-use rsb_tables::{Table, every_fifth, gives, set_of, slot, slots};
+use rsb_tables::{Table, every_fifth, gives, has, set_of, slot, slots};
 use std::alloc::{AllocError, Allocator, Global};
 use std::ops::{Bound, RangeBounds};
 use std::test::*;
@@ -197,7 +196,7 @@ fn outside<T: Integer, A: Allocator + Copy, R: RangeBounds<T>>(
 fn keep_below<T: Integer, A: Allocator + Clone>(set: &mut RangeSetBlaze<T, A>, start: T) -> bool
     ensures succeeds { IsTrue result }
     ensures members { Removes set.old set.new
-        (between T.rank T.value_count (Included start) Unbounded) }
+        (ranks_between T.rank T.value_count (Included start) Unbounded) }
 {
     set.ranges_remove(start..).is_ok()
 }
@@ -207,7 +206,7 @@ fn lacks_none<T: Integer, A: Allocator, R: RangeBounds<T>>(
     set: &RangeSetBlaze<T, A>,
     range: R,
 ) -> bool
-    ensures { R.has_bounds range → (IsTrue result ↔ Has set.now
+    ensures { R.has_bounds range → (IsTrue result ↔ HasAll set.now
         (ranks_in T.rank T.value_count R.start_bound R.end_bound range)) }
 {
     set.contains_range(range)

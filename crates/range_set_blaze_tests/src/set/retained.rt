@@ -4,9 +4,9 @@ ghost use Rattle.std.specs.List.{filter};
 ghost use Rattle.std.specs.Prelude.{◌≡◌, nat_lt};
 
 use crate::set::calls::{Answer, Change};
-use crate::set::rows::{changes, has};
+use crate::set::rows::changes;
 use range_set_blaze::{Integer, RangeSetBlaze};
-use rsb_tables::{Table, set_of};
+use rsb_tables::{Table, has, set_of};
 use std::alloc::Allocator;
 use std::test::*;
 

@@ -2,36 +2,8 @@
 
 use crate::set::calls::{Answer, Change, Making, carry_out, make};
 use range_set_blaze::RangeSetBlaze;
-use rsb_tables::{Table, gives, set_of};
+use rsb_tables::{Table, gives, has, set_of};
 use std::alloc::{AllocError, Allocator, Global};
-
-/// Returns the number of values of the ranges of a table.
-pub(crate) fn counted(table: Table<'_>) -> u64 {
-    let mut members = 0u64;
-    for (start, end) in table {
-        members = members
-            .saturating_add(u64::from(end.abs_diff(*start)))
-            .saturating_add(1);
-    }
-    members
-}
-
-/// Whether a set has the runs with these ends, and counts them and their members.
-pub(crate) fn has<A: Allocator>(set: &RangeSetBlaze<i32, A>, wanted: Table<'_>) -> bool {
-    set.ranges_len() == wanted.len() && set.len() == counted(wanted) && gives(set.ranges(), wanted)
-}
-
-/// Returns the set of the ranges of a table, in any allocator.
-pub(crate) fn set_in<A: Allocator + Copy>(
-    alloc: A,
-    ranges: Table<'_>,
-) -> Result<RangeSetBlaze<i32, A>, AllocError> {
-    let mut set = RangeSetBlaze::new(alloc);
-    for (start, end) in ranges {
-        set.ranges_insert(*start..=*end)?;
-    }
-    Ok(set)
-}
 
 /// A set and another beside it: what a change starts from, or what it leaves.
 pub(crate) type Pair<'a> = (Table<'a>, Table<'a>);

@@ -5,7 +5,7 @@ ghost use Rattle.std.specs.Prelude.{◌≡◌, ◌↔◌, ◌^◌, IsTrue};
 ghost use Rattle.rsb_integer.specs.Runs.{members};
 ghost use Rattle.rsb_integer.specs.Selection.{Agree, AreDisjoint, IsSubset};
 ghost use Rattle.range_set_blaze.specs.Order.{HasOrder};
-ghost use Rattle.range_set_c.specs.Answer.{order_told, IsOrderNumber};
+ghost use Rattle.range_set_c.specs.Answer.{order_of_number, IsOrderNumber};
 
 use super::handle::Handle;
 use range_set_blaze::RangeSetBlaze;
@@ -32,7 +32,7 @@ pub extern "C" fn rsb_u32_equal(alloc: Global, left: &mut Handle, right: &mut Ha
 #[unsafe(no_mangle)]
 pub extern "C" fn rsb_u32_order(alloc: Global, left: &mut Handle, right: &mut Handle) -> i32
     ensures order { HasOrder (2 ^ 32) (members left.old.kept.set) (members right.old.kept.set)
-        (order_told result) }
+        (order_of_number result) }
     ensures answer { IsOrderNumber result }
     ensures left { left.new.kept.set ≡ left.old.kept.set }
     ensures right { right.new.kept.set ≡ right.old.kept.set }

@@ -3,7 +3,7 @@
 ghost use Rattle.std.specs.Prelude.{◌≡◌, ◌↔◌, ◌≤◌, ◌+◌, ◌*◌, ◌^◌, [], length, IsFalse, IsTrue};
 ghost use Rattle.rsb_integer.specs.Runs.{covers, from_to, members};
 ghost use Rattle.rsb_integer.specs.Selection.{count, intersection, IsEmpty};
-ghost use Rattle.range_set_blaze.specs.Joining.{Has};
+ghost use Rattle.range_set_blaze.specs.Joining.{HasAll};
 ghost use Rattle.range_set_blaze.specs.Set.{IsGreatest, IsLeast};
 
 use super::handle::Handle;
@@ -30,7 +30,7 @@ pub extern "C" fn rsb_u64_contains_range(
     first: u64,
     last: u64,
 ) -> bool
-    ensures found { IsTrue result ↔ Has set.old.kept.set (covers (from_to first last)) }
+    ensures found { IsTrue result ↔ HasAll set.old.kept.set (covers (from_to first last)) }
     ensures same { set.new.kept.set ≡ set.old.kept.set }
 {
     let empty = RangeSetBlaze::new(alloc);

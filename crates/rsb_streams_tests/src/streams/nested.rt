@@ -1,7 +1,7 @@
 //! Operations on results of operations, proved only from public contracts.
 
 ghost use Rattle.rsb_integer.specs.Selection.{complement, union};
-ghost use Rattle.rsb_streams.specs.Stream.{◌⊆◌, joined, runs_by, runs_by_two};
+ghost use Rattle.rsb_streams.specs.Stream.{◌⊆◌, joined_runs, runs_by, runs_by_two};
 
 use rsb_integer::Integer;
 use rsb_streams::{
@@ -17,7 +17,7 @@ pub(crate) fn complement_twice<T: Integer, I: SortedDisjoint<T>>(
     requires { I.can_draw stream }
     ensures ready { ⟦<NotIter<T, NotIter<T, I>> as Draw<T>>⟧.can_draw result }
     ensures gives { ⟦<NotIter<T, NotIter<T, I>> as Draw<T>>⟧.may_give result
-        ⊆ joined T.value_count (I.may_give stream) }
+        ⊆ joined_runs T.value_count (I.may_give stream) }
 {
     !stream.complement()
 }

@@ -3,7 +3,7 @@
 ghost use Rattle.std.specs.Prelude.{IsTrue, List};
 ghost use Rattle.rsb_integer.specs.Runs.{Interval};
 ghost use Rattle.rsb_integer.specs.Selection.{complement, union, Selection};
-ghost use Rattle.rsb_streams.specs.Stream.{◌⊆◌, joined, just, runs_by_two};
+ghost use Rattle.rsb_streams.specs.Stream.{◌⊆◌, joined_runs, just, runs_by_two};
 
 use rsb_integer::Integer;
 use rsb_streams::{Difference, Draw, DrawDisjoint, Intersection, NotIter, RangeOnce, Union};
@@ -23,7 +23,7 @@ fn parts_joined<T: Integer, A: DrawDisjoint<T>, B: DrawDisjoint<T>>(
         → A.may_give some.0 ⊆ just these → B.may_give some.1 ⊆ just those
         → A.may_give again.0 ⊆ just these → B.may_give again.1 ⊆ just those
         → ⟦<Union<T, Intersection<T, A, B>, Difference<T, A, B>> as Draw<T>>⟧.may_give result
-        ⊆ joined T.value_count (just these) }
+        ⊆ joined_runs T.value_count (just these) }
 {
     let common = some.0.intersection(some.1);
     let rest = again.0.difference(again.1);

@@ -1,6 +1,6 @@
 use Rattle.std.proofs.Common.{◌∙◌, ◌-◌, ◌∷◌, drop, length, sym, ap, take}
 use Rattle.std.specs.Prelude.{codes}
-use Rattle.address_commands.proofs.CommandLineLemmas.{first-rest, some-left, some-mapped}
+use Rattle.address_commands.proofs.lemmas.CommandLine.{first-rest, some-left, some-mapped}
 use Rattle.address_commands.proofs.arguments.at_least.Goals as goal
 
 -- The number is one, and files follow.

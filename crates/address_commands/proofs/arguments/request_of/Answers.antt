@@ -1,6 +1,6 @@
 use Rattle.std.proofs.Common.{◌∙◌, ℕ, ◌-◌, ◌∷◌, Bor, List, drop, length, map, refl, ap, take}
 use Rattle.std.specs.Prelude.{codes}
-use Rattle.address_commands.proofs.CommandLineLemmas.{first-rest, no-command, of-operation}
+use Rattle.address_commands.proofs.lemmas.CommandLine.{first-rest, no-command, of-operation}
 use Rattle.address_commands.proofs.arguments.request_of.Goals as goal
 
 -- The words behind the command.

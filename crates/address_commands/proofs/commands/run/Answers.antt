@@ -2,7 +2,7 @@ use Rattle.std.proofs.Common.{subst, sym}
 use Rattle.std.specs.Prelude.{IfErr}
 use Rattle.address_commands.specs.Files.{IsFirstFault}
 use Rattle.address_commands.specs.Request.{files_of}
-use Rattle.address_commands.proofs.FilesLemmas.{passed-on}
+use Rattle.address_commands.proofs.lemmas.Files.{passed-on}
 use Rattle.address_commands.proofs.commands.run.Goals as goal
 
 -- A fault of an operation.

@@ -1,4 +1,4 @@
-use Rattle.address_commands.proofs.OneAnswerLemmas.{one_answer, one_count, one_finding}
+use Rattle.address_commands.proofs.lemmas.OneAnswer.{one_answer, one_count, one_finding}
 use Rattle.address_commands.proofs.laws.answer_is_unique.Goals as goal
 
 pub returns-clause-operation : goal.returns-clause-operation

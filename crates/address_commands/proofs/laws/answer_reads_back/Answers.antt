@@ -1,5 +1,5 @@
 use Rattle.std.proofs.Common.{sym, subst}
-use Rattle.address_commands.proofs.ReadBackLemmas.{combined_reads_back}
+use Rattle.address_commands.proofs.lemmas.ReadBack.{combined_reads_back}
 use Rattle.address_commands.specs.ReadBack.{ReadsAsCombined}
 use Rattle.address_commands.proofs.laws.answer_reads_back.Goals as goal
 

@@ -1,5 +1,5 @@
-use Rattle.address_commands.proofs.ReadBackLemmas.{reads_back}
-use Rattle.address_commands.proofs.SameTextLemmas.{same_text}
+use Rattle.address_commands.proofs.lemmas.ReadBack.{reads_back}
+use Rattle.address_commands.proofs.lemmas.SameText.{same_text}
 use Rattle.address_commands.proofs.laws.output_is_written_again.Goals as goal
 
 pub returns-clause-one : goal.returns-clause-one

@@ -1,4 +1,4 @@
-use Rattle.address_commands.proofs.ReadBackLemmas.{reads_back}
+use Rattle.address_commands.proofs.lemmas.ReadBack.{reads_back}
 use Rattle.address_commands.proofs.laws.output_reads_back.Goals as goal
 
 pub returns : goal.returns

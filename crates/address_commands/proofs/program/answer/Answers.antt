@@ -1,4 +1,4 @@
-use Rattle.address_commands.proofs.ProgramLemmas.{answered-good, ends-in, request-fault}
+use Rattle.address_commands.proofs.lemmas.Program.{answered-good, ends-in, request-fault}
 use Rattle.address_commands.specs.declared.fault.Fault.TheVariants.{NotWritten}
 use Rattle.address_commands.proofs.program.answer.Goals as goal
 

@@ -1,6 +1,6 @@
 use Rattle.std.proofs.Common.{map}
 use Rattle.std.specs.Prelude.{Err}
-use Rattle.address_commands.proofs.ProgramLemmas.{word-fault}
+use Rattle.address_commands.proofs.lemmas.Program.{word-fault}
 use Rattle.address_commands.proofs.program.start.Goals as goal
 
 -- The words have a fault.

@@ -1,5 +1,5 @@
 use Rattle.std.proofs.Common.{◌∙◌, ◌++◌, ◌∷◌, [], ap, arith, sym}
-use Rattle.address_commands.proofs.TextLemmas.{one-digit, three-digits, two-digits}
+use Rattle.address_commands.proofs.lemmas.Text.{one-digit, three-digits, two-digits}
 use Rattle.address_commands.proofs.text.lay_octet.Goals as goal
 
 -- One digit.

@@ -1,9 +1,9 @@
 use Rattle.std.proofs.Common.{refl, subst}
 use Rattle.std.specs.List.{flat_map}
 use Rattle.address_lists.specs.BlocksLeft.{block_runs, blocks_may_give}
-use Rattle.address_lists.proofs.aligned.Left.{all-aligned, all-given}
+use Rattle.address_lists.proofs.lemmas.aligned.Left.{all-aligned, all-given}
 use Rattle.address_commands.specs.Text.{block_line}
-use Rattle.address_commands.proofs.LaidLemmas.{lays-item, lays-nothing}
+use Rattle.address_commands.proofs.lemmas.Laid.{lays-item, lays-nothing}
 use Rattle.address_commands.proofs.writing.lay_blocks.Goals as goal
 
 -- No block was laid at first.

@@ -2,10 +2,10 @@ use Rattle.std.proofs.Common.{List, [], ◌∷◌, ◌++◌, ◌∙◌, ap, appe
 use Rattle.std.specs.Prelude.{Some, None}
 use Rattle.range_set_blaze.specs.Rank.{interval_of}
 use Rattle.range_set_blaze.specs.Runs.{Interval}
-use Rattle.range_set_blaze.proofs.gathering.OneByOne.{taken-ordered}
+use Rattle.range_set_blaze.proofs.lemmas.gathering.OneByOne.{taken-ordered}
 use Rattle.address_commands.specs.Text.{range_line, ranges_text}
-use Rattle.address_commands.proofs.LaidLemmas.{lays-item, lays-nothing}
-use Rattle.address_commands.proofs.LinesLemmas.{line-of-run}
+use Rattle.address_commands.proofs.lemmas.Laid.{lays-item, lays-nothing}
+use Rattle.address_commands.proofs.lemmas.Lines.{line-of-run}
 use Rattle.address_commands.proofs.writing.lay_ranges.Goals as goal
 
 -- Nothing was taken at first.

@@ -1,5 +1,5 @@
 use Rattle.std.proofs.Common.{◌∙◌, subst}
-use Rattle.address_commands.proofs.LinesLemmas.{WritesV4, WritesV6, both-written, of-set, v4-written, v6-written}
+use Rattle.address_commands.proofs.lemmas.Lines.{WritesV4, WritesV6, both-written, of-set, v4-written, v6-written}
 use Rattle.address_commands.proofs.writing.write_list.Goals as goal
 
 -- Both families were written.

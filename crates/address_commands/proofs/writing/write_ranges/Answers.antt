@@ -1,5 +1,5 @@
 use Rattle.address_commands.specs.Text.{IsSetText}
-use Rattle.address_commands.proofs.LaidLemmas.{lays-sent}
+use Rattle.address_commands.proofs.lemmas.Laid.{lays-sent}
 use Rattle.address_commands.proofs.writing.write_ranges.Goals as goal
 
 -- What waited on the page was written.

@@ -1,4 +1,4 @@
-use Rattle.address_commands.proofs.SelectionLemmas.{both-selected, v4-selected, v6-selected}
+use Rattle.address_commands.proofs.lemmas.Selection.{both-selected, v4-selected, v6-selected}
 use Rattle.address_commands.proofs.writing.write_streams.Goals as goal
 
 -- Both families were written.

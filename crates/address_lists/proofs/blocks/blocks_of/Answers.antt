@@ -2,7 +2,7 @@ use Rattle.std.proofs.Common.{subst, sym, All}
 use Rattle.range_set_blaze.specs.Runs.{members}
 use Rattle.address_lists.specs.Blocks.{AreMaximalBlocks}
 use Rattle.address_lists.specs.BlocksLeft.{block_runs, blocks_may_give, IsAligned}
-use Rattle.address_lists.proofs.aligned.Left.{all-aligned, all-given}
+use Rattle.address_lists.proofs.lemmas.aligned.Left.{all-aligned, all-given}
 use Rattle.address_lists.proofs.blocks.blocks_of.Goals as goal
 
 -- The blocks that the calls gave are those of a list that the stream may give.

@@ -2,7 +2,7 @@ use Rattle.std.proofs.Common.{◌∙◌}
 use Rattle.std.proofs.lemmas.Result.{IfOk-weaker}
 use Rattle.range_set_blaze.specs.Runs.{members}
 use Rattle.address_lists.specs.BlocksLeft.{block_runs}
-use Rattle.address_lists.proofs.aligned.Fewest.{maximal-blocks, maximal-fewest, maximal-same}
+use Rattle.address_lists.proofs.lemmas.aligned.Fewest.{maximal-blocks, maximal-fewest, maximal-same}
 use Rattle.address_lists.proofs.blocks.set_blocks.Goals as goal
 
 pub returns-clause-exact : goal.returns-clause-exact

@@ -1,7 +1,7 @@
 use Rattle.std.proofs.lemmas.List.{take_rest}
 use Rattle.address_lists.specs.Line.{IsLine}
 use Rattle.address_lists.specs.LineParts.{Reads}
-use Rattle.address_lists.proofs.spelling.Plain.{line_to_feed}
+use Rattle.address_lists.proofs.lemmas.spelling.Plain.{line_to_feed}
 use Rattle.address_lists.proofs.line.first_line.Goals as goal
 
 -- The line ends at the first line feed.

@@ -1,5 +1,5 @@
 use Rattle.std.proofs.Common.{◌∙◌, ℕ, List, ap, eqb, length, sym, true≢false}
-use Rattle.address_lists.proofs.spelling.Lines.{bad_line}
+use Rattle.address_lists.proofs.lemmas.spelling.Lines.{bad_line}
 use Rattle.address_lists.proofs.line.parse_line.Goals as goal
 
 -- The line has a text that writes no addresses.

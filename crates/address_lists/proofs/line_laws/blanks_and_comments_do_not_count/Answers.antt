@@ -1,4 +1,4 @@
-use Rattle.address_lists.proofs.spelling.Around.{content_around, content_nothing}
+use Rattle.address_lists.proofs.lemmas.spelling.Around.{content_around, content_nothing}
 use Rattle.address_lists.proofs.line_laws.blanks_and_comments_do_not_count.Goals as goal
 
 pub returns : goal.returns

@@ -1,4 +1,4 @@
-use Rattle.address_lists.proofs.spelling.Blocks.{block_members}
+use Rattle.address_lists.proofs.lemmas.spelling.Blocks.{block_members}
 use Rattle.address_lists.proofs.line_laws.blocks_share_their_first_bits.Goals as goal
 
 pub returns : goal.returns

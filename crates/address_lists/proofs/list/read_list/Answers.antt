@@ -5,7 +5,7 @@ use Rattle.address_lists.specs.Gathering.{AreGatheredTo}
 use Rattle.address_lists.specs.Line.{IsLine}
 use Rattle.address_lists.specs.LineParts.{Reads}
 use Rattle.address_lists.specs.List.{IsFirstBadLine, IsListOf, LeavesPastBadLine}
-use Rattle.address_lists.proofs.listing.Known.{IfSome-then, all_read, few_read, known_start, read_bad, read_next, read_none, same_fault}
+use Rattle.address_lists.proofs.lemmas.listing.Known.{IfSome-then, all_read, few_read, known_start, read_bad, read_next, read_none, same_fault}
 use Rattle.address_lists.proofs.list.read_list.Goals as goal
 
 -- Nothing was read at the start.
@@ -40,12 +40,12 @@ returns-then-branch-eq0-clause-list g c =
     let end = c.in_ok-read_until.ensures.end c.if-branch-eq0.true in
     IfSome-then (g.R.Read.remaining c.args.input.now)
     (λ bytes. AreGatheredTo bytes (g.R.Read.remaining c.loop.input) c.loop.gathered)
-    (λ bytes. IsListOf bytes (members c.in_ok-list.field-0.v4) (members c.in_ok-list.field-0.v6))
+    (λ bytes. IsListOf bytes (members c.list.result.v4) (members c.list.result.v6))
     c.loop.invariant
     (λ bytes has.
     all_read bytes before c.add_buffered.new.self (c.in_ok-add_buffered.ensures.gathered bytes has)
-    end c.in_ok-list.field-0.v4 c.in_ok-list.field-0.v6 c.in_ok-list.ensures.v4
-    c.in_ok-list.ensures.v6)
+    end c.list.result.v4 c.list.result.v6 c.list.ensures.v4
+    c.list.ensures.v6)
 
 pub returns-then-branch-eq0-clause-run_count : goal.returns-then-branch-eq0-clause-run_count
 returns-then-branch-eq0-clause-run_count g c =
@@ -53,12 +53,12 @@ returns-then-branch-eq0-clause-run_count g c =
     let end = c.in_ok-read_until.ensures.end c.if-branch-eq0.true in
     IfSome-then (g.R.Read.remaining c.args.input.now)
     (λ bytes. AreGatheredTo bytes (g.R.Read.remaining c.loop.input) c.loop.gathered)
-    (λ bytes. length c.in_ok-list.field-0.v4 + length c.in_ok-list.field-0.v6
+    (λ bytes. length c.list.result.v4 + length c.list.result.v6
     ≤ length (lines bytes))
     c.loop.invariant
     (λ bytes has.
     few_read bytes before c.add_buffered.new.self (c.in_ok-add_buffered.ensures.gathered bytes has)
-    end c.in_ok-list.field-0.v4 c.in_ok-list.field-0.v6 c.in_ok-list.ensures.run_count)
+    end c.list.result.v4 c.list.result.v6 c.list.ensures.run_count)
 
 pub returns-then-branch-eq0-clause-end : goal.returns-then-branch-eq0-clause-end
 returns-then-branch-eq0-clause-end g c =

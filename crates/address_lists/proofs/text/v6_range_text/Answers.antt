@@ -5,7 +5,7 @@ use Rattle.std.specs.Net.Text.{ipv6_text}
 use Rattle.std.specs.String.{string_bytes}
 use Rattle.address_lists.specs.Address.{v6_text}
 use Rattle.address_lists.specs.Line.{MeansV6}
-use Rattle.address_lists.proofs.spelling.Means.{v6_span_means, v6_text_of}
+use Rattle.address_lists.proofs.lemmas.spelling.Means.{v6_span_means, v6_text_of}
 use Rattle.address_lists.proofs.text.v6_range_text.Goals as goal
 
 pub returns-clause-text : goal.returns-clause-text

@@ -1,7 +1,7 @@
 use Rattle.std.proofs.lemmas.List.Elements.{All-weaker}
 use Rattle.rsb_integer.specs.Runs.{IsCanonicalIn}
 use Rattle.rsb_many.specs.MultiwayAtLeast.{multiway_at_least, GivesRunsOfAllAtMost, MakesMultiwayAtLeast}
-use Rattle.range_set_blaze.proofs.gathering.ManySets.{given-list, known-at_least}
+use Rattle.range_set_blaze.proofs.lemmas.gathering.ManySets.{given-list, known-at_least}
 use Rattle.range_set_blaze.proofs.multiway.at_least_of.Goals as goal
 
 -- The stream gives only the runs of what is selected, and at most as many as all streams together.

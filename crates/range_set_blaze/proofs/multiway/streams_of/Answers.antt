@@ -1,7 +1,7 @@
 use Rattle.std.proofs.Common.{◌≡◌, ◌∷◌, ◌++◌, ◌∙◌, [], ap, map, sym}
 use Rattle.std.proofs.lemmas.List.{map-append}
 use Rattle.std.proofs.lemmas.List.Elements.{All-push}
-use Rattle.rsb_many.proofs.inputs.HandedIn.{ended-run}
+use Rattle.rsb_many.proofs.lemmas.inputs.HandedIn.{ended-run}
 use Rattle.range_set_blaze.proofs.multiway.streams_of.Goals as goal
 
 -- The new stream gives the runs of the next set.

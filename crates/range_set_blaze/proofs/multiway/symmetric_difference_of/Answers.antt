@@ -1,4 +1,4 @@
-use Rattle.range_set_blaze.proofs.gathering.ManySets.{given-list, known-made}
+use Rattle.range_set_blaze.proofs.lemmas.gathering.ManySets.{given-list, known-made}
 use Rattle.rsb_integer.specs.Selection.{odd_of}
 use Rattle.rsb_many.specs.MultiwayResults.{MakesMultiwaySymmetricDifference}
 use Rattle.rsb_many.specs.MultiwaySymmetricDifference.{multiway_symmetric_difference}

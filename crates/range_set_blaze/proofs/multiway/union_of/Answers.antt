@@ -1,4 +1,4 @@
-use Rattle.range_set_blaze.proofs.gathering.ManySets.{given-list, known-made}
+use Rattle.range_set_blaze.proofs.lemmas.gathering.ManySets.{given-list, known-made}
 use Rattle.rsb_integer.specs.Selection.{any_of}
 use Rattle.rsb_many.specs.MultiwayResults.{MakesMultiwayUnion}
 use Rattle.rsb_many.specs.MultiwayUnion.{multiway_union}

@@ -3,14 +3,14 @@
 ghost use Rattle.std.specs.Prelude.{All, IfOk};
 
 use crate::set::calls::Making;
-use crate::set::refusals::heaps::{Heap, HeapSet};
-use crate::set::rows::has;
 use range_set_blaze::{
     CheckSortedTouching, Draw, DynSortedDisjoint, KMerge, MultiwaySweep,
     MultiwaySymmetricDifference, RangeOnce, RangeSetBlaze, SortedTouching, UnionIter,
 };
 use rsb_many::intersection_dyn;
-use rsb_tables::{Form, Table, form_gives, gives, odd_of_three, of_lent, of_sets, some_of_two};
+use rsb_tables::{
+    Form, Heap, HeapSet, Table, form_gives, gives, has, odd_of_three, of_lent, of_sets, some_of_two,
+};
 use std::alloc::{AllocError, Allocator, Global};
 use std::ops::RangeInclusive;
 use std::vec::IntoIter;

@@ -2,9 +2,7 @@
 
 use crate::set::calls::{Answer, Change, carry_out};
 use crate::set::cells::{Cell, Side, agree, mark_front, reckon, runs, spaced};
-use crate::set::refusals::heaps::{Heap, HeapSet};
-use crate::set::rows::set_in;
-use rsb_tables::Counting;
+use rsb_tables::{Counting, Heap, HeapSet, set_in};
 use std::alloc::{AllocError, Global};
 use std::test::*;
 

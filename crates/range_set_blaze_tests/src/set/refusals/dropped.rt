@@ -1,10 +1,8 @@
 //! Iterators that are dropped after one item from each of their ends.
 
 use crate::set::refusals::built::{Building, built_gives};
-use crate::set::refusals::heaps::{Heap, HeapSet};
-use crate::set::rows::{has, set_in};
 use range_set_blaze::{MultiwaySweep, RangeSetBlaze, SweepEvent};
-use rsb_tables::{Counting, Table, set_of};
+use rsb_tables::{Counting, Heap, HeapSet, Table, has, set_in, set_of};
 use std::alloc::{AllocError, Global};
 use std::test::*;
 

@@ -3,10 +3,8 @@
 use crate::set::calls::{Making, make};
 use crate::set::cells::{Side, runs, runs_made, spaced};
 use crate::set::refusals::built::{Building, built_gives};
-use crate::set::refusals::heaps::{Heap, HeapSet};
-use crate::set::rows::{has, set_in};
 use range_set_blaze::RangeSetBlaze;
-use rsb_tables::{Counting, Table, set_of};
+use rsb_tables::{Counting, Heap, HeapSet, Table, has, set_in, set_of};
 use std::alloc::{AllocError, Global};
 use std::test::*;
 

@@ -2,10 +2,8 @@
 
 use crate::set::calls::Change;
 use crate::set::refusals::changes::tried;
-use crate::set::refusals::heaps::{Heap, HeapSet};
-use crate::set::rows::{has, set_in};
 use range_set_blaze::RangeSetBlaze;
-use rsb_tables::{Counting, Table};
+use rsb_tables::{Counting, Heap, HeapSet, Table, has, set_in};
 use std::alloc::{AllocError, Global};
 use std::test::*;
 

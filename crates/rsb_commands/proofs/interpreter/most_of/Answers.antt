@@ -4,7 +4,7 @@ use Rattle.std.specs.Array.Iter.{array_into_iter_items, array_steps}
 use Rattle.rsb_integer.specs.Runs.{members}
 use Rattle.rsb_integer.specs.Selection.{at_least}
 use Rattle.range_set_blaze.specs.Set.{IsSetOf}
-use Rattle.range_set_blaze.proofs.gathering.ManySets.{whole-items}
+use Rattle.range_set_blaze.proofs.ManySets.{whole-items}
 use Rattle.rsb_commands.proofs.interpreter.most_of.Goals as goal
 
 -- The items that are passed are the three sets.

@@ -1,6 +1,6 @@
 use Rattle.std.proofs.Common.{arith}
-use Rattle.rsb_integer.proofs.RunsLemmas.{runs-along}
-use Rattle.rsb_commands.proofs.replying.KeptSets.{sets_of-put}
+use Rattle.rsb_integer.proofs.lemmas.Runs.{runs-along}
+use Rattle.rsb_commands.proofs.lemmas.replying.KeptSets.{sets_of-put}
 use Rattle.rsb_commands.proofs.interpreter.put_set.Goals as goal
 
 pub returns-clause-put : goal.returns-clause-put

@@ -6,7 +6,7 @@ use Rattle.range_set_blaze.specs.Order.{HasOrder}
 use Rattle.range_set_blaze.specs.OrderLaws.{order-holds}
 use Rattle.range_set_blaze.specs.Set.{only}
 use Rattle.rsb_commands.specs.Interpreter.{most_of, sets_of}
-use Rattle.rsb_commands.proofs.replying.KeptSets.{sets_after-added, reply-added, sets_of-put}
+use Rattle.rsb_commands.proofs.lemmas.replying.KeptSets.{sets_after-added, reply-added, sets_of-put}
 use Rattle.rsb_commands.proofs.interpreter.run_command.Goals as goal
 
 pub returns-in_ok-ranges_insert-in-Add-clause-after :

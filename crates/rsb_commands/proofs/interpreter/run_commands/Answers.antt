@@ -2,10 +2,10 @@ use Rattle.std.proofs.Common.{vec_len, ◌+◌, ◌≡◌, ◌∷◌, ◌++◌, 
 use Rattle.std.proofs.Math.Nat.{le_trans}
 use Rattle.std.proofs.lemmas.List.{map-append, take_all}
 use Rattle.std.proofs.lemmas.Option.{slice_get_read}
-use Rattle.rsb_integer.proofs.RangeLemmas.{one_place}
+use Rattle.rsb_integer.proofs.lemmas.Range.{one_place}
 use Rattle.rsb_commands.specs.Interpreter.{AreReplies, content_of, contents_of, no_members}
-use Rattle.rsb_commands.proofs.replying.OneReply.{replies_unique}
-use Rattle.rsb_commands.proofs.replying.InOrder.{has_run_more}
+use Rattle.rsb_commands.proofs.lemmas.replying.OneReply.{replies_unique}
+use Rattle.rsb_commands.proofs.lemmas.replying.InOrder.{has_run_more}
 use Rattle.rsb_commands.proofs.interpreter.run_commands.Goals as goal
 
 pub loop-at-preserved : goal.loop-at-preserved

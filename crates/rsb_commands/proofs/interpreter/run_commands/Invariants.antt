@@ -1,7 +1,7 @@
 use Rattle.std.proofs.Common.{◌≡◌, ◌≤◌, length, vec_len}
 use Rattle.std.specs.Prelude.{vec_capacity}
 use Rattle.rsb_commands.specs.Interpreter.{contents_of}
-use Rattle.rsb_commands.proofs.replying.InOrder.{HasRun}
+use Rattle.rsb_commands.proofs.lemmas.replying.InOrder.{HasRun}
 use Rattle.rsb_commands.proofs.interpreter.run_commands.Given as goal
 
 -- The commands before this one have their replies, and there is room for the others.

@@ -1,5 +1,5 @@
 use Rattle.rsb_commands.specs.Interpreter.{no_members}
-use Rattle.rsb_commands.proofs.replying.OneReply.{replies-take}
+use Rattle.rsb_commands.proofs.lemmas.replying.OneReply.{replies-take}
 use Rattle.rsb_commands.proofs.laws.first_commands_first_replies.Goals as goal
 
 pub returns : goal.returns

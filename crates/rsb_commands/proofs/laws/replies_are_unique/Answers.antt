@@ -1,6 +1,6 @@
-use Rattle.rsb_integer.proofs.RangeLemmas.{one_place}
+use Rattle.rsb_integer.proofs.lemmas.Range.{one_place}
 use Rattle.rsb_commands.specs.Interpreter.{no_members}
-use Rattle.rsb_commands.proofs.replying.OneReply.{replies_unique}
+use Rattle.rsb_commands.proofs.lemmas.replying.OneReply.{replies_unique}
 use Rattle.rsb_commands.proofs.laws.replies_are_unique.Goals as goal
 
 pub returns : goal.returns

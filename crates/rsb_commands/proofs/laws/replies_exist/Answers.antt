@@ -1,5 +1,5 @@
 use Rattle.rsb_commands.specs.Interpreter.{no_members}
-use Rattle.rsb_commands.proofs.replying.SomeReply.{replies_exist}
+use Rattle.rsb_commands.proofs.lemmas.replying.SomeReply.{replies_exist}
 use Rattle.rsb_commands.proofs.laws.replies_exist.Goals as goal
 
 pub returns : goal.returns

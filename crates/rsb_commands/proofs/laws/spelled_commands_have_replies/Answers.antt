@@ -3,8 +3,8 @@ use Rattle.rsb_integer.specs.Rank.{signed_value}
 use Rattle.rsb_integer.specs.RankLaws.{signed-ranks}
 use Rattle.rsb_parser.specs.Spelling.{lines_with_words}
 use Rattle.rsb_commands.specs.Interpreter.{no_members}
-use Rattle.rsb_commands.proofs.replying.SomeReply.{replies_exist}
-use Rattle.rsb_commands.proofs.replying.SpelledValues.{spelled_values}
+use Rattle.rsb_commands.proofs.lemmas.replying.SomeReply.{replies_exist}
+use Rattle.rsb_commands.proofs.lemmas.replying.SpelledValues.{spelled_values}
 use Rattle.rsb_commands.proofs.laws.spelled_commands_have_replies.Goals as goal
 
 pub returns : goal.returns

@@ -1,8 +1,8 @@
 use Rattle.std.proofs.Common.{[], arith, subst}
 use Rattle.rsb_commands.specs.Interpreter.{content_of}
 use Rattle.rsb_commands.specs.Page.{Lays}
-use Rattle.rsb_commands.proofs.writing.LaidText.{lays-nothing}
-use Rattle.rsb_commands.proofs.writing.Replies.{replied_all, replied_front, replied_more, replied_none, replied_part, replied_short}
+use Rattle.rsb_commands.proofs.lemmas.writing.LaidText.{lays-nothing}
+use Rattle.rsb_commands.proofs.lemmas.writing.Replies.{replied_all, replied_front, replied_more, replied_none, replied_part, replied_short}
 use Rattle.rsb_commands.proofs.program.answer.Goals as goal
 
 -- Allocation failed before the first command.

@@ -1,5 +1,5 @@
 use Rattle.std.proofs.Common.{◌≡◌, vec_len}
-use Rattle.rsb_commands.proofs.writing.Replies.{HasReplied}
+use Rattle.rsb_commands.proofs.lemmas.writing.Replies.{HasReplied}
 use Rattle.rsb_commands.proofs.program.answer.Given as goal
 
 -- The commands before this one have their replies, and these were laid.

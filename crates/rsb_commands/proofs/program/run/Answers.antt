@@ -1,6 +1,6 @@
 use Rattle.std.proofs.Common.{◌<◌, length, subst}
-use Rattle.rsb_parser.proofs.reading.Consumed.{some_spelled}
-use Rattle.rsb_commands.proofs.writing.Replies.{cut_before_all}
+use Rattle.rsb_parser.proofs.lemmas.reading.Consumed.{some_spelled}
+use Rattle.rsb_commands.proofs.lemmas.writing.Replies.{cut_before_all}
 use Rattle.rsb_commands.proofs.program.run.Goals as goal
 
 -- A read failed, and nothing was written.

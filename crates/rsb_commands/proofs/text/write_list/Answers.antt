@@ -1,7 +1,7 @@
 use Rattle.std.proofs.Common.{◌≡◌, ◌∷◌, [], ap, rules}
 use Rattle.std.specs.Prelude.{flat_map}
 use Rattle.rsb_commands.specs.Text.{next_range_text, range_text, ranges_text}
-use Rattle.rsb_commands.proofs.writing.LaidText.{lays-cut, lays-nothing, lays-then}
+use Rattle.rsb_commands.proofs.lemmas.writing.LaidText.{lays-cut, lays-nothing, lays-then}
 use Rattle.rsb_commands.proofs.text.write_list.Goals as goal
 
 -- The first range was cut short.

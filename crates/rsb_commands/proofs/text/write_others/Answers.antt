@@ -1,7 +1,7 @@
 use Rattle.std.proofs.Common.{Ok, drop, suc, take}
 use Rattle.std.specs.Prelude.{flat_map}
 use Rattle.rsb_commands.specs.Text.{next_range_text}
-use Rattle.rsb_commands.proofs.writing.LaidText.{items_cut, items_push, lays-cut, lays-then}
+use Rattle.rsb_commands.proofs.lemmas.writing.LaidText.{items_cut, items_push, lays-cut, lays-then}
 use Rattle.rsb_commands.proofs.text.write_others.Goals as goal
 
 -- A range was cut short.

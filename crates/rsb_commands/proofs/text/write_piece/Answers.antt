@@ -2,7 +2,7 @@ use Rattle.std.proofs.Common.{◌≡◌, ◌∙◌, ◌++◌, ℤ, Bool, [], app
 use Rattle.std.specs.Prelude.{codes}
 use Rattle.rsb_commands.specs.Interpreter.{flag, piece}
 use Rattle.rsb_commands.specs.Text.{ends_text, flag_text, line_text}
-use Rattle.rsb_commands.proofs.writing.LaidText.{lays-cut, lays-nothing, lays-then}
+use Rattle.rsb_commands.proofs.lemmas.writing.LaidText.{lays-cut, lays-nothing, lays-then}
 use Rattle.rsb_commands.proofs.text.write_piece.Goals as goal
 
 -- The text of a run or a gap is that of its ends, then a flag that says which of the two it is.

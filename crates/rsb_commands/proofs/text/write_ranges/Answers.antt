@@ -1,7 +1,7 @@
 use Rattle.std.proofs.Common.{[], refl}
 use Rattle.std.specs.Prelude.{codes}
 use Rattle.rsb_commands.specs.Text.{ranges_text}
-use Rattle.rsb_commands.proofs.writing.LaidText.{lays-cut, lays-nothing, lays-then}
+use Rattle.rsb_commands.proofs.lemmas.writing.LaidText.{lays-cut, lays-nothing, lays-then}
 use Rattle.rsb_commands.proofs.text.write_ranges.Goals as goal
 
 -- The ranges were cut short.

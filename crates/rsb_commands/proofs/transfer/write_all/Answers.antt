@@ -1,5 +1,5 @@
 use Rattle.std.proofs.lemmas.List.{take_rest}
-use Rattle.rsb_commands.proofs.writing.Appended.{has_written_more}
+use Rattle.rsb_commands.proofs.lemmas.writing.Appended.{has_written_more}
 use Rattle.rsb_commands.proofs.transfer.write_all.Goals as goal
 
 -- The bytes that this call took follow those that were written before it.

@@ -1,5 +1,5 @@
 use Rattle.std.proofs.Common.{◌+◌, length}
-use Rattle.rsb_commands.proofs.writing.Appended.{HasWritten}
+use Rattle.rsb_commands.proofs.lemmas.writing.Appended.{HasWritten}
 use Rattle.rsb_commands.proofs.transfer.write_all.Given as goal
 
 abbrev pub invariant-loop-rest : goal.invariant-loop-rest

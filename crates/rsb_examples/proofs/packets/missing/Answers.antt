@@ -1,5 +1,5 @@
 use Rattle.std.proofs.Common.{◌&&◌, ◌∙◌, ◌^◌, not, refl}
-use Rattle.range_set_blaze.proofs.gathering.SetOperations.{set-of_operation}
+use Rattle.range_set_blaze.proofs.SetOperations.{set-of_operation}
 use Rattle.rsb_examples.proofs.packets.missing.Goals as goal
 
 -- The set is a list that the difference of two known lists may give.

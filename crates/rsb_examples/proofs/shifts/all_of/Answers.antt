@@ -2,7 +2,7 @@ use Rattle.std.proofs.Common.{[], ◌∷◌, ◌++◌, map, subst, sym}
 use Rattle.std.proofs.lemmas.List.{append-nil}
 use Rattle.range_set_blaze.specs.MultiwaySweep.{sweep_may_give}
 use Rattle.range_set_blaze.specs.Sweep.{event_of}
-use Rattle.rsb_examples.proofs.ShiftsLemmas.{told-more}
+use Rattle.rsb_examples.proofs.lemmas.Shifts.{told-more}
 use Rattle.rsb_examples.proofs.shifts.all_of.Goals as goal
 
 pub loop-event-init : goal.loop-event-init

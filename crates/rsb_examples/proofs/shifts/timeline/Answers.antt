@@ -2,7 +2,7 @@ use Rattle.std.proofs.Common.{map}
 use Rattle.std.proofs.lemmas.Result.{IfOk-weaker}
 use Rattle.range_set_blaze.specs.MultiwaySweep.{SweepsOver}
 use Rattle.range_set_blaze.specs.Sweep.{event_of}
-use Rattle.range_set_blaze.proofs.gathering.ManySets.{given-list}
+use Rattle.range_set_blaze.proofs.ManySets.{given-list}
 use Rattle.rsb_examples.proofs.shifts.timeline.Goals as goal
 
 -- The events that the sweep returns are those of the ranges that its streams give.

@@ -1,4 +1,4 @@
-use Rattle.rsb_integer.proofs.AtLeastLemmas.{at_least-falls}
+use Rattle.rsb_integer.proofs.lemmas.AtLeast.{at_least-falls}
 use Rattle.rsb_integer.proofs.laws.at_least_falls.Goals as goal
 
 pub returns : goal.returns

@@ -1,5 +1,5 @@
 -- The theorem on lists of intervals, for the number of values of the type.
-use Rattle.rsb_integer.proofs.RunsLemmas.{canonical-is_runs}
+use Rattle.rsb_integer.proofs.lemmas.Runs.{canonical-is_runs}
 use Rattle.rsb_integer.proofs.laws.canonical_lists_are_runs.Goals as goal
 
 pub returns : goal.returns

@@ -1,5 +1,5 @@
 -- The theorem on lists of ranges. It holds here because no two values have the same rank.
-use Rattle.rsb_integer.proofs.RangeLemmas.{one_place, same_members}
+use Rattle.rsb_integer.proofs.lemmas.Range.{one_place, same_members}
 use Rattle.rsb_integer.proofs.laws.equal_members_equal_lists.Goals as goal
 
 pub returns : goal.returns

@@ -1,6 +1,6 @@
 -- The values that are found are the ends of the range, because no two values have the same rank.
 use Rattle.std.proofs.Common.{arith}
-use Rattle.rsb_integer.proofs.RangeLemmas.{one_place}
+use Rattle.rsb_integer.proofs.lemmas.Range.{one_place}
 use Rattle.rsb_integer.proofs.laws.offsets_undo_length.Goals as goal
 
 pub returns-clause-end : goal.returns-clause-end

@@ -1,4 +1,4 @@
-use Rattle.rsb_many.proofs.events.Lists.{events-some}
+use Rattle.rsb_many.proofs.lemmas.events.Lists.{events-some}
 use Rattle.rsb_many.proofs.laws.some_list_of_events.Goals as goal
 
 pub returns : goal.returns

@@ -2,8 +2,8 @@ use Rattle.std.proofs.Common.{[], ◌∷◌, All, subst, sym}
 use Rattle.std.proofs.lemmas.List.Elements.{All-append, All-cons, All-nil}
 use Rattle.rsb_streams.specs.NotIter.{not_iter}
 use Rattle.rsb_many.specs.MultiwayResults.{AreComplements}
-use Rattle.rsb_many.proofs.inputs.HandedIn.{ended-run}
-use Rattle.rsb_many.proofs.merging.Operations.{AreComplements-more}
+use Rattle.rsb_many.proofs.lemmas.inputs.HandedIn.{ended-run}
+use Rattle.rsb_many.proofs.lemmas.merging.Operations.{AreComplements-more}
 use Rattle.rsb_many.proofs.multiway.complements.Goals as goal
 
 -- With one more, the complements are those of all streams that came so far.

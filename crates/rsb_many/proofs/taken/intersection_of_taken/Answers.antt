@@ -1,7 +1,7 @@
 use Rattle.std.proofs.lemmas.Result.{IfOk-weaker}
 use Rattle.rsb_many.specs.MultiwayResults.{MakesMultiwayIntersection}
 use Rattle.rsb_many.specs.MultiwayIntersection.{multiway_intersection}
-use Rattle.rsb_many.proofs.inputs.GivenList.{given-list, taken_stream}
+use Rattle.rsb_many.proofs.lemmas.inputs.GivenList.{given-list, taken_stream}
 use Rattle.rsb_many.proofs.taken.intersection_of_taken.Goals as goal
 
 -- The intersection is of the streams of the list.

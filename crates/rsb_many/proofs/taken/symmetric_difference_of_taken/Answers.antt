@@ -1,7 +1,7 @@
 use Rattle.std.proofs.lemmas.Result.{IfOk-weaker}
 use Rattle.rsb_many.specs.MultiwayResults.{MakesMultiwaySymmetricDifference}
 use Rattle.rsb_many.specs.MultiwaySymmetricDifference.{multiway_symmetric_difference}
-use Rattle.rsb_many.proofs.inputs.GivenList.{given-list, taken_stream}
+use Rattle.rsb_many.proofs.lemmas.inputs.GivenList.{given-list, taken_stream}
 use Rattle.rsb_many.proofs.taken.symmetric_difference_of_taken.Goals as goal
 
 -- The symmetric difference is of the streams of the list.

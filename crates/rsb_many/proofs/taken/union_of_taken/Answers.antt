@@ -1,7 +1,7 @@
 use Rattle.std.proofs.lemmas.Result.{IfOk-weaker}
 use Rattle.rsb_many.specs.MultiwayResults.{MakesMultiwayUnion}
 use Rattle.rsb_many.specs.MultiwayUnion.{multiway_union}
-use Rattle.rsb_many.proofs.inputs.GivenList.{given-list, taken_stream}
+use Rattle.rsb_many.proofs.lemmas.inputs.GivenList.{given-list, taken_stream}
 use Rattle.rsb_many.proofs.taken.union_of_taken.Goals as goal
 
 -- The union is of the streams of the list.

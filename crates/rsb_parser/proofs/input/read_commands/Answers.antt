@@ -1,7 +1,7 @@
 use Rattle.std.proofs.Common.{◌++◌, refl, rules, sym, subst, take}
 use Rattle.rsb_parser.specs.Input.{HasTaken}
 use Rattle.rsb_parser.specs.Spelling.{IsFirstBadLine}
-use Rattle.rsb_parser.proofs.reading.Consumed.{Consumes-end, Consumes-keeps, Consumes-then, consumed-all, consumed-only}
+use Rattle.rsb_parser.proofs.lemmas.reading.Consumed.{Consumes-end, Consumes-keeps, Consumes-then, consumed-all, consumed-only}
 use Rattle.rsb_parser.proofs.input.read_commands.Goals as goal
 use Rattle.rsb_parser.proofs.input.read_commands.Goals.{in-Ok+in_ok-take-in-Ok, in-Err+else-ne}
 

@@ -2,7 +2,7 @@ use Rattle.std.proofs.Common.{◌≡◌, arith, pos, refl}
 use Rattle.std.proofs.lemmas.Grind.{common_steps}
 use Rattle.std.specs.Prelude.{codes}
 use Rattle.rsb_parser.specs.declared.command.Command.TheVariants.{Add, Del, Has, Gap}
-use Rattle.rsb_parser.proofs.reading.OneCommand.{no_arguments, slot_range_none, slot_value_none}
+use Rattle.rsb_parser.proofs.lemmas.reading.OneCommand.{no_arguments, slot_range_none, slot_value_none}
 use Rattle.rsb_parser.proofs.parse.command_of.Goals as goal
 
 pub returns-in_err-slot-in-add : goal.returns-in_err-slot-in-add

@@ -1,6 +1,6 @@
 use Rattle.std.proofs.Common.{◌^◌, ◌<◌, arith, get_or, refl}
 use Rattle.std.specs.Str.Parse.{digits_value}
-use Rattle.rsb_parser.proofs.reading.Numbers.{has_digits_more, no_digits, too_large}
+use Rattle.rsb_parser.proofs.lemmas.reading.Numbers.{has_digits_more, no_digits, too_large}
 use Rattle.rsb_parser.proofs.parse.digits.Goals as goal
 
 -- This byte is not a digit.

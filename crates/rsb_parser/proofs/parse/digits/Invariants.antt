@@ -1,5 +1,5 @@
 use Rattle.std.proofs.Common.{◌^◌, ◌<◌}
-use Rattle.rsb_parser.proofs.reading.Numbers.{HasDigits}
+use Rattle.rsb_parser.proofs.lemmas.reading.Numbers.{HasDigits}
 use Rattle.rsb_parser.proofs.parse.digits.Given as goal
 
 abbrev pub invariant-loop-digit : goal.invariant-loop-digit

@@ -1,6 +1,6 @@
 use Rattle.std.proofs.Common.{sym}
 use Rattle.std.proofs.lemmas.List.{take_rest}
-use Rattle.rsb_parser.proofs.reading.Cuts.{lines-None, lines-Some}
+use Rattle.rsb_parser.proofs.lemmas.reading.Cuts.{lines-None, lines-Some}
 use Rattle.rsb_parser.proofs.parse.first_line.Goals as goal
 
 -- If there is no line feed, all of the bytes are one line.

@@ -1,6 +1,6 @@
 use Rattle.std.proofs.Common.{◌<◌, ◌∙◌, length, rules, sym}
 use Rattle.std.proofs.lemmas.List.{take_rest}
-use Rattle.rsb_parser.proofs.reading.Cuts.{some_before, words-None, words-after_word}
+use Rattle.rsb_parser.proofs.lemmas.reading.Cuts.{some_before, words-None, words-after_word}
 use Rattle.rsb_parser.proofs.parse.first_word.Goals as goal
 
 -- The line is one word.

@@ -1,7 +1,7 @@
 use Rattle.std.proofs.lemmas.Int.{to_z-of_z}
 use Rattle.std.specs.Int.{w32}
 use Rattle.std.specs.Int.RustNames.{FitsSigned}
-use Rattle.rsb_parser.proofs.reading.Numbers.{number_is_word}
+use Rattle.rsb_parser.proofs.lemmas.reading.Numbers.{number_is_word}
 use Rattle.rsb_parser.proofs.parse.last_number.Goals as goal
 
 -- The number is the last word of the line.

@@ -2,7 +2,7 @@ use Rattle.std.proofs.Common.{◌≡◌, ◌<◌, length, subst, sym}
 use Rattle.std.specs.List.{position}
 use Rattle.std.specs.Option.{IfSome}
 use Rattle.memchr.specs.Find.{TakesFirst, is_byte}
-use Rattle.rsb_parser.proofs.reading.Cuts.{position-places, position-within}
+use Rattle.rsb_parser.proofs.lemmas.reading.Cuts.{position-places, position-within}
 use Rattle.rsb_parser.proofs.parse.line_feed.Goals as goal
 
 -- The place is the first of all places of a line feed.

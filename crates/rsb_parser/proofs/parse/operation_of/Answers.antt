@@ -2,7 +2,7 @@ use Rattle.std.proofs.Common.{◌≡◌, arith, refl}
 use Rattle.std.proofs.lemmas.Grind.{common_steps}
 use Rattle.std.specs.Prelude.{codes}
 use Rattle.rsb_parser.specs.declared.command.Command.TheVariants.{Union, Intersection, Difference, SymmetricDifference, Complement, Most, Compare}
-use Rattle.rsb_parser.proofs.reading.OneCommand.{four_slots_none, no_arguments, three_slots_none, two_slots_none}
+use Rattle.rsb_parser.proofs.lemmas.reading.OneCommand.{four_slots_none, no_arguments, three_slots_none, two_slots_none}
 use Rattle.rsb_parser.proofs.parse.operation_of.Goals as goal
 
 pub returns-in_err-target-in-or : goal.returns-in_err-target-in-or

@@ -1,5 +1,5 @@
 use Rattle.rsb_parser.specs.Spelling.{lines_with_words}
-use Rattle.rsb_parser.proofs.reading.OneCommand.{one_list}
+use Rattle.rsb_parser.proofs.lemmas.reading.OneCommand.{one_list}
 use Rattle.rsb_parser.proofs.parse.parse_commands.Goals as goal
 
 -- The commands that were found are the only ones.

@@ -1,6 +1,6 @@
 use Rattle.std.proofs.Common.{◌≡◌, ◌+◌, ◌<◌, ap, arith, length, rules, subst, sym}
 use Rattle.rsb_parser.specs.Spelling.{IsFirstBadLine, Spells, words}
-use Rattle.rsb_parser.proofs.reading.Lines.{has_read_silent, has_read_command, has_read_bad, has_read_count, has_read_some}
+use Rattle.rsb_parser.proofs.lemmas.reading.Lines.{has_read_silent, has_read_command, has_read_bad, has_read_count, has_read_some}
 use Rattle.rsb_parser.proofs.parse.parse_lines.Goals as goal
 
 -- The line that was read last is the first bad one.

@@ -1,5 +1,5 @@
 use Rattle.std.proofs.Common.{◌+◌, ◌≤◌, length}
-use Rattle.rsb_parser.proofs.reading.Lines.{HasRead}
+use Rattle.rsb_parser.proofs.lemmas.reading.Lines.{HasRead}
 use Rattle.rsb_parser.proofs.parse.parse_lines.Given as goal
 
 -- The lines before `rest` were read. Each has a byte, so their number fits.

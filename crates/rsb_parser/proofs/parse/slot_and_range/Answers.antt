@@ -1,6 +1,6 @@
 use Rattle.std.proofs.Common.{[], ◌∷◌}
 use Rattle.rsb_parser.specs.Spelling.{number, slot}
-use Rattle.rsb_parser.proofs.reading.OneCommand.{no_more, no_number_first, no_slot_first, no_words, past_first}
+use Rattle.rsb_parser.proofs.lemmas.reading.OneCommand.{no_more, no_number_first, no_slot_first, no_words, past_first}
 use Rattle.rsb_parser.proofs.parse.slot_and_range.Goals as goal
 
 -- There is no word.

@@ -1,6 +1,6 @@
 use Rattle.std.proofs.Common.{[], ◌∷◌}
 use Rattle.rsb_parser.specs.Spelling.{slot}
-use Rattle.rsb_parser.proofs.reading.OneCommand.{no_slot_first, no_words, past_first}
+use Rattle.rsb_parser.proofs.lemmas.reading.OneCommand.{no_slot_first, no_words, past_first}
 use Rattle.rsb_parser.proofs.parse.three_slots.Goals as goal
 
 -- There is no word.

@@ -1,4 +1,4 @@
-use Rattle.rsb_streams.proofs.filling.Lists.{filled-unique}
+use Rattle.rsb_streams.proofs.lemmas.filling.Lists.{filled-unique}
 use Rattle.rsb_streams.proofs.laws.one_filled_list.Goals as goal
 
 pub returns : goal.returns

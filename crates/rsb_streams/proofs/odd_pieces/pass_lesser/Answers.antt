@@ -1,6 +1,6 @@
 use Rattle.std.proofs.Common.{arith}
-use Rattle.rsb_streams.proofs.checking.Comparisons.{IsRanked, less-rank, not_less-rank}
-use Rattle.rsb_streams.proofs.odd.States.{left-first, left-other, past-first, past-neither, past-other}
+use Rattle.rsb_streams.proofs.lemmas.checking.Comparisons.{IsRanked, less-rank, not_less-rank}
+use Rattle.rsb_streams.proofs.lemmas.odd.States.{left-first, left-other, past-first, past-neither, past-other}
 use Rattle.rsb_streams.proofs.odd_pieces.pass_lesser.Given.{Over}
 use Rattle.rsb_streams.proofs.odd_pieces.pass_lesser.Goals as goal
 

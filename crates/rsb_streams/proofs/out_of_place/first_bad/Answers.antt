@@ -1,6 +1,6 @@
 use Rattle.std.proofs.Common.{◌+◌, length}
 use Rattle.rsb_streams.specs.OutOfPlace.{gap_of}
-use Rattle.rsb_streams.proofs.checking.FirstFault.{bad-here, below-here, checked-all, checked-none, checked-one, follows-after, place-past, place-within, spaced-take}
+use Rattle.rsb_streams.proofs.lemmas.checking.FirstFault.{bad-here, below-here, checked-all, checked-none, checked-one, follows-after, place-past, place-within, spaced-take}
 use Rattle.rsb_streams.proofs.out_of_place.first_bad.Goals as goal
 
 pub loop-range-init : goal.loop-range-init

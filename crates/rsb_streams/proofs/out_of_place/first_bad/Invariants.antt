@@ -1,6 +1,6 @@
 use Rattle.std.proofs.Common.{◌-◌, length}
 use Rattle.rsb_streams.specs.OutOfPlace.{gap_of}
-use Rattle.rsb_streams.proofs.checking.FirstFault.{IsChecked}
+use Rattle.rsb_streams.proofs.lemmas.checking.FirstFault.{IsChecked}
 use Rattle.rsb_streams.proofs.out_of_place.first_bad.Given as goal
 
 abbrev pub invariant-loop-range : goal.invariant-loop-range

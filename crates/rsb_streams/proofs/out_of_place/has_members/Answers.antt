@@ -1,8 +1,8 @@
 use Rattle.std.proofs.Common.{◌≡◌, ◌<◌, nat_le, not, sym, ◌∙◌, subst}
 use Rattle.std.specs.Range.{range_inclusive_start, range_inclusive_end}
 use Rattle.rsb_integer.specs.Rank.{interval_of}
-use Rattle.rsb_streams.proofs.checking.Comparisons.{IsRanked, ends-below, some-test}
-use Rattle.rsb_streams.proofs.sources.Known.{range-start}
+use Rattle.rsb_streams.proofs.lemmas.checking.Comparisons.{IsRanked, ends-below, some-test}
+use Rattle.rsb_streams.proofs.lemmas.sources.Known.{range-start}
 use Rattle.rsb_streams.proofs.out_of_place.has_members.Given.{Over}
 use Rattle.rsb_streams.proofs.out_of_place.has_members.Goals as goal
 use Rattle.rsb_streams.proofs.out_of_place.has_members.Goals.{After-is_empty}

@@ -1,8 +1,8 @@
 use Rattle.std.proofs.Common.{◌∙◌, ◌∷◌, ◌++◌, inl, inr, map, sym, ap, refl, subst}
 use Rattle.std.proofs.lemmas.List.{map_push}
 use Rattle.address_commands.specs.CommandLine.{IsMisuse, IsWordFault}
-use Rattle.address_commands.proofs.CommandLineLemmas.{first-unknown, more-mark, more-operand, more-option}
-use Rattle.address_commands.proofs.FilesLemmas.{passed-on}
+use Rattle.address_commands.proofs.lemmas.CommandLine.{first-unknown, more-mark, more-operand, more-option}
+use Rattle.address_commands.proofs.lemmas.Files.{passed-on}
 use Rattle.address_commands.proofs.arguments.Arguments.add.Goals as goal
 use Rattle.address_commands.proofs.arguments.Arguments.add.Goals.{then-self-via-then-self, then-self-via-else-self+then-not-is_dashed}
 

@@ -1,7 +1,7 @@
 use Rattle.std.proofs.Common.{◌≡◌, ◌∙◌, ◌∷◌, ◌++◌, drop, drop-cons, map, sym, ap, suc, subst, take}
 use Rattle.std.proofs.lemmas.List.{map-append, take-append-drop}
 use Rattle.address_commands.specs.CommandLine.{IsWordFault}
-use Rattle.address_commands.proofs.FilesLemmas.{passed-on}
+use Rattle.address_commands.proofs.lemmas.Files.{passed-on}
 use Rattle.address_commands.proofs.arguments.Arguments.new.Goals as goal
 
 -- A word has a fault.

@@ -1,7 +1,7 @@
 use Rattle.std.proofs.Common.{map}
 use Rattle.address_commands.specs.Files.{IsFirstFault, selected}
-use Rattle.address_commands.proofs.AnswerLemmas.{combined}
-use Rattle.address_commands.proofs.FilesLemmas.{after-reading, all-good, name_of, passed-on}
+use Rattle.address_commands.proofs.lemmas.Answer.{combined}
+use Rattle.address_commands.proofs.lemmas.Files.{after-reading, all-good, name_of, passed-on}
 use Rattle.address_commands.proofs.commands.combination.write_combination.Goals as goal
 
 -- The text of what the operation selects was written.

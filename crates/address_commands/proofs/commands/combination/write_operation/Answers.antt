@@ -1,7 +1,7 @@
 use Rattle.std.proofs.Common.{map}
 use Rattle.range_set_blaze.specs.Runs.{members}
 use Rattle.address_lists.specs.declared.operations.Operation.TheVariants.{AtLeast, Common, Complement, Except, Odd, Union}
-use Rattle.address_commands.proofs.SelectionLemmas.{as-asked}
+use Rattle.address_commands.proofs.lemmas.Selection.{as-asked}
 use Rattle.address_commands.proofs.commands.combination.write_operation.Goals as goal
 
 -- What each operation selects was written.

@@ -3,8 +3,8 @@ use Rattle.range_set_blaze.specs.Runs.{IsCanonicalIn, members}
 use Rattle.rsb_streams.specs.Listed.{listed_may_give}
 use Rattle.address_lists.specs.Blocks.{AreMaximalBlocks}
 use Rattle.address_lists.specs.BlocksLeft.{block_runs, blocks_may_give}
-use Rattle.address_lists.proofs.aligned.Left.{all-given}
-use Rattle.address_commands.proofs.LinesLemmas.{as-many}
+use Rattle.address_lists.proofs.lemmas.aligned.Left.{all-given}
+use Rattle.address_commands.proofs.lemmas.Lines.{as-many}
 use Rattle.address_commands.proofs.commands.count.block_count.Goals as goal
 
 -- The runs of a set neither overlap nor touch.

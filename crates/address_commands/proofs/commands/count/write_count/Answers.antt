@@ -1,7 +1,7 @@
 use Rattle.std.specs.Fmt.{decimal}
 use Rattle.std.specs.Io.KnownBytes.{Appends}
 use Rattle.std.specs.Prelude.{codes}
-use Rattle.address_commands.proofs.CountLemmas.{line-written}
+use Rattle.address_commands.proofs.lemmas.Count.{line-written}
 use Rattle.address_commands.proofs.commands.count.write_count.Goals as goal
 
 -- The parts of the line were written, if the text of the number is known.

@@ -2,9 +2,9 @@ use Rattle.std.proofs.Common.{◌^◌, map, subst}
 use Rattle.range_set_blaze.specs.Multiway.{IsMadeOf}
 use Rattle.range_set_blaze.specs.Runs.{members}
 use Rattle.range_set_blaze.specs.Selection.{Agree, any_of}
-use Rattle.address_commands.proofs.AnswerLemmas.{same-v4, same-v6}
+use Rattle.address_commands.proofs.lemmas.Answer.{same-v4, same-v6}
 use Rattle.address_commands.specs.Files.{IsFirstFault, selected}
-use Rattle.address_commands.proofs.FilesLemmas.{all-good, name_of, passed-on}
+use Rattle.address_commands.proofs.lemmas.Files.{all-good, name_of, passed-on}
 use Rattle.address_commands.specs.declared.fault.Fault.TheVariants.{NotWritten}
 use Rattle.address_commands.proofs.commands.count.write_counts.Goals as goal
 

@@ -1,4 +1,4 @@
-use Rattle.address_commands.proofs.CountLemmas.{both-counted}
+use Rattle.address_commands.proofs.lemmas.Count.{both-counted}
 use Rattle.address_commands.proofs.commands.count.write_list_counts.Goals as goal
 
 -- Both families were counted.

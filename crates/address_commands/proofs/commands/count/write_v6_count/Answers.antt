@@ -2,7 +2,7 @@ use Rattle.std.proofs.Common.{◌^◌, ◌++◌, subst, sym}
 use Rattle.std.specs.Fmt.{decimal}
 use Rattle.std.specs.Io.KnownBytes.{Appends}
 use Rattle.std.specs.Prelude.{OnOk, codes}
-use Rattle.address_commands.proofs.CountLemmas.{all-v6, counted-if-ok}
+use Rattle.address_commands.proofs.lemmas.Count.{all-v6, counted-if-ok}
 use Rattle.address_commands.proofs.commands.count.write_v6_count.Goals as goal
 
 -- All IPv6 addresses.

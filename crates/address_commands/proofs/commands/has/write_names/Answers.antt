@@ -1,6 +1,6 @@
 use Rattle.std.proofs.Common.{map}
 use Rattle.address_commands.specs.Files.{IsFirstFault, selected}
-use Rattle.address_commands.proofs.FilesLemmas.{all-good, name_of, passed-on}
+use Rattle.address_commands.proofs.lemmas.Files.{all-good, name_of, passed-on}
 use Rattle.address_commands.specs.declared.fault.Fault.TheVariants.{NotWritten}
 use Rattle.address_commands.proofs.commands.has.write_names.Goals as goal
 

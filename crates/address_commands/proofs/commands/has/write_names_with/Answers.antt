@@ -7,8 +7,8 @@ use Rattle.std.specs.Slice.Iter.{iter_rest}
 use Rattle.std.specs.Prelude.{codes}
 use Rattle.address_commands.specs.Answer.{found_outcome, has_address, names_text, names_with}
 use Rattle.address_commands.specs.Files.{Selected, selected}
-use Rattle.address_commands.proofs.AppendsLemmas.{Appends-item}
-use Rattle.address_commands.proofs.NamesLemmas.{found-more, names-all, names-found, names-lacking, names_of, pair_of, zip-yielded}
+use Rattle.address_commands.proofs.lemmas.Appends.{Appends-item}
+use Rattle.address_commands.proofs.lemmas.Names.{found-more, names-all, names-found, names-lacking, names_of, pair_of, zip-yielded}
 use Rattle.address_commands.proofs.commands.has.write_names_with.Given.{Over}
 use Rattle.address_commands.proofs.commands.has.write_names_with.Goals as goal
 use Rattle.address_commands.proofs.commands.has.write_names_with.Goals.{In-None}

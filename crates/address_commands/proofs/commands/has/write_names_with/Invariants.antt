@@ -1,7 +1,7 @@
 use Rattle.std.proofs.Common.{◌≡◌, map}
 use Rattle.std.specs.Io.KnownBytes.{Appends}
 use Rattle.address_commands.specs.Answer.{found_outcome, has_address, names_text}
-use Rattle.address_commands.proofs.NamesLemmas.{names_of, pair_of}
+use Rattle.address_commands.proofs.lemmas.Names.{names_of, pair_of}
 use Rattle.address_commands.proofs.commands.has.write_names_with.Given as goal
 
 -- the names of the files so far were written, and the outcome says whether there are any

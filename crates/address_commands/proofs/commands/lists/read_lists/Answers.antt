@@ -1,6 +1,6 @@
 use Rattle.std.proofs.Common.{◌+◌, map, subst, sym, take}
 use Rattle.address_commands.specs.Files.{AreFilesOf, IsFirstFault, selected}
-use Rattle.address_commands.proofs.FilesLemmas.{fault-here, files-more, name_of, passed-on}
+use Rattle.address_commands.proofs.lemmas.Files.{fault-here, files-more, name_of, passed-on}
 use Rattle.address_commands.proofs.commands.lists.read_lists.Goals as goal
 
 -- A file had a fault.

@@ -1,6 +1,6 @@
 use Rattle.std.proofs.Common.{map, take}
 use Rattle.address_commands.specs.Files.{AreFilesOf, selected}
-use Rattle.address_commands.proofs.FilesLemmas.{name_of}
+use Rattle.address_commands.proofs.lemmas.Files.{name_of}
 use Rattle.address_commands.proofs.commands.lists.read_lists.Given as goal
 
 -- the lists are those of the files before this one

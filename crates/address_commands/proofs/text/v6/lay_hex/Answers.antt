@@ -1,5 +1,5 @@
 use Rattle.std.proofs.Common.{arith}
-use Rattle.address_commands.proofs.TextLemmas.{hex-four, hex-one, hex-three, hex-two}
+use Rattle.address_commands.proofs.lemmas.Text.{hex-four, hex-one, hex-three, hex-two}
 use Rattle.address_commands.proofs.text.v6.lay_hex.Goals as goal
 
 -- One digit.

@@ -1,6 +1,6 @@
 use Rattle.std.proofs.Common.{◌∙◌, ◌++◌, ap, arith, sym}
 use Rattle.std.proofs.lemmas.Grind.{common_steps}
-use Rattle.address_commands.proofs.TextLemmas.{parted-groups, whole-groups}
+use Rattle.address_commands.proofs.lemmas.Text.{parted-groups, whole-groups}
 use Rattle.address_commands.proofs.text.v6.lay_segments.Goals as goal
 
 -- No two zeros in a row.

@@ -3,7 +3,7 @@ use Rattle.std.specs.Net.Addr.{ipv6_segments}
 use Rattle.std.specs.Net.Text.{hex_groups_text, ipv4_text}
 use Rattle.std.specs.Prelude.{codes}
 use Rattle.address_lists.specs.Address.{v6_text}
-use Rattle.address_commands.proofs.TextLemmas.{groups-text, laid-then, mapped-text, text-of-bits}
+use Rattle.address_commands.proofs.lemmas.Text.{groups-text, laid-then, mapped-text, text-of-bits}
 use Rattle.address_commands.proofs.text.v6.lay_v6.Goals as goal
 
 -- The address is IPv4-mapped.

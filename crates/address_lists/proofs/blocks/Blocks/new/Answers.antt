@@ -1,5 +1,5 @@
 use Rattle.std.proofs.Common.{refl}
-use Rattle.address_lists.proofs.aligned.Left.{fresh-gives, fresh-ready}
+use Rattle.address_lists.proofs.lemmas.aligned.Left.{fresh-gives, fresh-ready}
 use Rattle.address_lists.proofs.blocks.Blocks.new.Goals as goal
 
 pub returns-clause-ready : goal.returns-clause-ready

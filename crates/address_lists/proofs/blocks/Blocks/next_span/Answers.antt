@@ -1,6 +1,6 @@
 use Rattle.std.proofs.Common.{refl, sym}
 use Rattle.std.specs.Prelude.{None, Some}
-use Rattle.address_lists.proofs.aligned.Left.{takes-drawn, takes-held, takes-none}
+use Rattle.address_lists.proofs.lemmas.aligned.Left.{takes-drawn, takes-held, takes-none}
 use Rattle.address_lists.proofs.blocks.Blocks.next_span.Goals as goal
 
 -- The span that is held.

@@ -1,5 +1,5 @@
 use Rattle.std.proofs.Common.{refl}
-use Rattle.address_lists.proofs.aligned.Left.{none-gives, none-goes, split-gives, split-goes}
+use Rattle.address_lists.proofs.lemmas.aligned.Left.{none-gives, none-goes, split-gives, split-goes}
 use Rattle.address_lists.proofs.blocks.BlocksIterator.next.Goals as goal
 
 -- Nothing is left.

@@ -1,6 +1,6 @@
 use Rattle.std.proofs.Common.{arith, refl}
 use Rattle.range_set_blaze.specs.Runs.{from_to}
-use Rattle.address_lists.proofs.aligned.Biggest.{biggest-is}
+use Rattle.address_lists.proofs.lemmas.aligned.Biggest.{biggest-is}
 use Rattle.address_lists.proofs.blocks.numbers.biggest_at.Goals as goal
 use lib.Count.{count_trailing_zeros}
 

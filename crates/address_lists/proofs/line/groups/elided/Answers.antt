@@ -1,5 +1,5 @@
 use Rattle.std.proofs.Common.{arith}
-use Rattle.address_lists.proofs.spelling.Groups.{shifted_room}
+use Rattle.address_lists.proofs.lemmas.spelling.Groups.{shifted_room}
 use Rattle.address_lists.proofs.line.groups.elided.Goals as goal
 
 -- The last groups find room after the first ones.

@@ -1,4 +1,4 @@
-use Rattle.address_lists.proofs.spelling.Groups.{four_digits, one_digit, three_digits, two_digits}
+use Rattle.address_lists.proofs.lemmas.spelling.Groups.{four_digits, one_digit, three_digits, two_digits}
 use Rattle.address_lists.proofs.line.groups.group.Goals as goal
 
 -- The group has as many digits as were read.

@@ -1,5 +1,5 @@
 use Rattle.std.proofs.Common.{◌+◌, ◌*◌, ap, arith, refl}
-use Rattle.address_lists.proofs.spelling.Groups.{no_groups, one_group_more, room_for_more}
+use Rattle.address_lists.proofs.lemmas.spelling.Groups.{no_groups, one_group_more, room_for_more}
 use Rattle.address_lists.proofs.line.groups.read_groups.Goals as goal
 
 pub reading-init : goal.reading-init

@@ -1,6 +1,6 @@
 use Rattle.std.proofs.Common.{◌≡◌, ◌+◌, ◌*◌, ◌++◌, arith}
 use Rattle.std.specs.Fmt.{decimal}
-use Rattle.address_lists.proofs.spelling.Octets.{first_digit, next_digit}
+use Rattle.address_lists.proofs.lemmas.spelling.Octets.{first_digit, next_digit}
 use Rattle.address_lists.proofs.line.octets.octet.Goals as goal
 
 -- The number has one digit.

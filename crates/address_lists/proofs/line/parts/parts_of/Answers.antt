@@ -1,6 +1,6 @@
 use Rattle.std.proofs.Common.{◌+◌, ◌∷◌, ◌∙◌, ap, drop, eqb, sym, take}
 use Rattle.std.proofs.lemmas.List.{take_rest}
-use Rattle.address_lists.proofs.spelling.Parts.{first_part, one_part, three_parts}
+use Rattle.address_lists.proofs.lemmas.spelling.Parts.{first_part, one_part, three_parts}
 use Rattle.address_lists.proofs.line.parts.parts_of.Goals as goal
 
 pub returns-in-None : goal.returns-in-None

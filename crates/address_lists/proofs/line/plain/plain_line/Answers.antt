@@ -1,7 +1,7 @@
 use Rattle.std.proofs.Common.{◌∷◌, ◌∙◌, ap}
 use Rattle.address_lists.specs.AddressRange.{numbers}
-use Rattle.address_lists.proofs.spelling.Plain.{line_of_block, line_of_span, one_line}
-use Rattle.address_lists.proofs.spelling.Read.{IfSome-weaker}
+use Rattle.address_lists.proofs.lemmas.spelling.Plain.{line_of_block, line_of_span, one_line}
+use Rattle.address_lists.proofs.lemmas.spelling.Read.{IfSome-weaker}
 use Rattle.address_lists.proofs.line.plain.plain_line.Goals as goal
 
 -- The address is the whole line.

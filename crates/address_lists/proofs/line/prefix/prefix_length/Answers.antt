@@ -1,5 +1,5 @@
 use Rattle.std.proofs.Common.{◌≡◌, arith, get_or, length, sym}
-use Rattle.address_lists.proofs.spelling.Lengths.{decimal_of_value, no_zero_first, value_of_decimal}
+use Rattle.address_lists.proofs.lemmas.spelling.Lengths.{decimal_of_value, no_zero_first, value_of_decimal}
 use Rattle.address_lists.proofs.line.prefix.prefix_length.Goals as goal
 use Rattle.address_lists.proofs.line.prefix.prefix_length.Goals.{else-text-gt1-via-then-text-gt1+else-text-eq48, else-text-gt1-via-else-text-gt1}
 

@@ -1,6 +1,6 @@
 use Rattle.std.proofs.Common.{◌∙◌, ◌^◌, ◌<◌, ap, arith, sym}
 use Rattle.std.proofs.Math.Pow.{pow_mono}
-use Rattle.address_lists.proofs.spelling.Blocks.{last_fits, shifted_size, whole_end, whole_start}
+use Rattle.address_lists.proofs.lemmas.spelling.Blocks.{last_fits, shifted_size, whole_end, whole_start}
 use Rattle.address_lists.proofs.line.range.block_around.Goals as goal
 
 -- All addresses.

@@ -1,6 +1,6 @@
 use Rattle.std.proofs.Common.{arith}
 use Rattle.address_lists.specs.AddressRange.{numbers}
-use Rattle.address_lists.proofs.spelling.Ranges.{out_of_order}
+use Rattle.address_lists.proofs.lemmas.spelling.Ranges.{out_of_order}
 use Rattle.address_lists.proofs.line.range.span.Goals as goal
 
 pub returns-in_err-first : goal.returns-in_err-first

@@ -1,4 +1,4 @@
-use Rattle.address_lists.proofs.listing.Contents.{same_list}
+use Rattle.address_lists.proofs.lemmas.listing.Contents.{same_list}
 use Rattle.address_lists.proofs.list.laws.comments_select_nothing.Goals as goal
 
 pub returns : goal.returns

@@ -1,6 +1,6 @@
 use Rattle.address_lists.specs.Line.{MeansV4, MeansV6}
 use Rattle.std.specs.Str.Lines.{lines}
-use Rattle.address_lists.proofs.listing.OneSelection.{not_both, one_bad_line, one_selection}
+use Rattle.address_lists.proofs.lemmas.listing.OneSelection.{not_both, one_bad_line, one_selection}
 use Rattle.address_lists.proofs.list.laws.list_selects_one.Goals as goal
 
 pub returns-clause-v4 : goal.returns-clause-v4

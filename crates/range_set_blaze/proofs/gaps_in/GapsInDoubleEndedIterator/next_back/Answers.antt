@@ -1,9 +1,9 @@
 use Rattle.std.proofs.Common.{◌∙◌, sym}
-use Rattle.rsb_integer.proofs.RangeLemmas.{value_at-rank}
+use Rattle.rsb_integer.proofs.lemmas.Range.{value_at-rank}
 use Rattle.range_set_blaze.specs.GapsIn.{gaps_left, range_at}
-use Rattle.range_set_blaze.specs.Kept.{run_of}
-use Rattle.range_set_blaze.proofs.windows.GapRanges.{gap-last, left-canonical}
-use Rattle.range_set_blaze.proofs.windows.Ranges.{mapped-goes_last}
+use Rattle.range_set_blaze.specs.Storage.{run_of}
+use Rattle.range_set_blaze.proofs.lemmas.windows.GapRanges.{gap-last, left-canonical}
+use Rattle.range_set_blaze.proofs.lemmas.windows.Ranges.{mapped-goes_last}
 use Rattle.range_set_blaze.proofs.gaps_in.GapsInDoubleEndedIterator.next_back.Goals as goal
 
 -- The range of the last gap comes last.

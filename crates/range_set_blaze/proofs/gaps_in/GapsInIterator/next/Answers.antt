@@ -1,8 +1,8 @@
 use Rattle.std.proofs.Common.{◌∙◌, sym}
-use Rattle.rsb_integer.proofs.RangeLemmas.{value_at-rank}
+use Rattle.rsb_integer.proofs.lemmas.Range.{value_at-rank}
 use Rattle.range_set_blaze.specs.GapsIn.{gaps_left, range_at}
-use Rattle.range_set_blaze.proofs.windows.GapRanges.{gap-first, left-canonical}
-use Rattle.range_set_blaze.proofs.windows.Ranges.{mapped-goes_first}
+use Rattle.range_set_blaze.proofs.lemmas.windows.GapRanges.{gap-first, left-canonical}
+use Rattle.range_set_blaze.proofs.lemmas.windows.Ranges.{mapped-goes_first}
 use Rattle.range_set_blaze.proofs.gaps_in.GapsInIterator.next.Goals as goal
 
 -- The range of the first gap comes first.

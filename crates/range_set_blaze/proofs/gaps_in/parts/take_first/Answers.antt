@@ -1,8 +1,8 @@
 use Rattle.std.proofs.Common.{◌<◌, arith}
 use Rattle.std.proofs.lemmas.List.Elements.{All-head}
 use Rattle.rsb_integer.specs.Runs.{Interval}
-use Rattle.range_set_blaze.specs.Kept.{run_of, runs_of}
-use Rattle.range_set_blaze.proofs.windows.Gaps.{between-tail}
+use Rattle.range_set_blaze.specs.Storage.{run_of, runs_of}
+use Rattle.range_set_blaze.proofs.lemmas.windows.Gaps.{between-tail}
 use Rattle.range_set_blaze.proofs.gaps_in.parts.take_first.Goals as goal
 
 -- The first run ends before the last value.

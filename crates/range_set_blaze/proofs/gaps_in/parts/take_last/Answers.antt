@@ -1,7 +1,7 @@
 use Rattle.std.proofs.Common.{◌≡◌, ◌-◌, arith}
-use Rattle.range_set_blaze.specs.Kept.{run_of, runs_of}
-use Rattle.range_set_blaze.proofs.windows.Gaps.{between-front, between-last, gaps-last}
-use Rattle.range_set_blaze.proofs.windows.GapRanges.{last-runs}
+use Rattle.range_set_blaze.specs.Storage.{run_of, runs_of}
+use Rattle.range_set_blaze.proofs.lemmas.windows.Gaps.{between-front, between-last, gaps-last}
+use Rattle.range_set_blaze.proofs.lemmas.windows.GapRanges.{last-runs}
 use Rattle.range_set_blaze.proofs.gaps_in.parts.take_last.Goals as goal
 
 -- The last run starts after the first value.

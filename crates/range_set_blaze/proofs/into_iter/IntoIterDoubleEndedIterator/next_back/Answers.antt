@@ -1,4 +1,4 @@
-use Rattle.range_set_blaze.proofs.elements.Listed.{listed-takes, takes-goes}
+use Rattle.range_set_blaze.proofs.lemmas.elements.Listed.{listed-takes, takes-goes}
 use Rattle.range_set_blaze.proofs.into_iter.IntoIterDoubleEndedIterator.next_back.Goals as goal
 
 -- The element is the greatest of those that are left.

@@ -1,4 +1,4 @@
-use Rattle.range_set_blaze.proofs.elements.Listed.{hint-count}
+use Rattle.range_set_blaze.proofs.lemmas.elements.Listed.{hint-count}
 use Rattle.range_set_blaze.proofs.into_iter.IntoIterIterator.size_hint.Goals as goal
 
 -- Each range has at least one element.

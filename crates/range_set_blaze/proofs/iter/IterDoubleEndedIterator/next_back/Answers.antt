@@ -1,7 +1,7 @@
 use Rattle.std.proofs.Common.{refl}
 use Rattle.std.specs.Prelude.{None, Some}
 use Rattle.range_set_blaze.specs.BothEnds.{is_ready}
-use Rattle.range_set_blaze.proofs.elements.Ends.{counted-alike, greatest, turned-drawn, turned-far, turned-held}
+use Rattle.range_set_blaze.proofs.lemmas.elements.Ends.{counted-alike, greatest, turned-drawn, turned-far, turned-held}
 use Rattle.range_set_blaze.proofs.iter.IterDoubleEndedIterator.next_back.Goals as goal
 
 -- The stream may be called from the back.

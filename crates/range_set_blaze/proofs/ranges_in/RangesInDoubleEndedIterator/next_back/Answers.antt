@@ -1,7 +1,7 @@
 use Rattle.std.proofs.Common.{◌∙◌, sym}
-use Rattle.range_set_blaze.specs.Kept.{entry_of}
+use Rattle.range_set_blaze.specs.Storage.{entry_of}
 use Rattle.range_set_blaze.specs.Windows.{range_up_to, with_held}
-use Rattle.range_set_blaze.proofs.windows.Ranges.{mapped-goes_last, window-last}
+use Rattle.range_set_blaze.proofs.lemmas.windows.Ranges.{mapped-goes_last, window-last}
 use Rattle.range_set_blaze.proofs.ranges_in.RangesInDoubleEndedIterator.next_back.Goals as goal
 
 -- The range of the last run comes last.

@@ -1,6 +1,6 @@
 use Rattle.std.proofs.Common.{◌∙◌, sym}
 use Rattle.range_set_blaze.specs.Windows.{range_up_to}
-use Rattle.range_set_blaze.proofs.windows.Ranges.{mapped-goes_first, window-first}
+use Rattle.range_set_blaze.proofs.lemmas.windows.Ranges.{mapped-goes_first, window-first}
 use Rattle.range_set_blaze.proofs.ranges_in.RangesInIterator.next.Goals as goal
 
 -- The range of the first run comes first.

@@ -1,4 +1,4 @@
-use Rattle.range_set_blaze.proofs.elements.Ranges.{goes-last}
+use Rattle.range_set_blaze.proofs.lemmas.elements.Ranges.{goes-last}
 use Rattle.range_set_blaze.proofs.ranges_iter.RangesIterDoubleEndedIterator.next_back.Goals as goal
 
 -- What is left of canonical ranges is canonical.

@@ -1,4 +1,4 @@
-use Rattle.range_set_blaze.proofs.elements.Ranges.{goes-first}
+use Rattle.range_set_blaze.proofs.lemmas.elements.Ranges.{goes-first}
 use Rattle.range_set_blaze.proofs.ranges_iter.RangesIterIterator.next.Goals as goal
 
 -- What is left of canonical ranges is canonical.

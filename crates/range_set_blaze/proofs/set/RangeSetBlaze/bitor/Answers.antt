@@ -1,8 +1,8 @@
 use Rattle.std.proofs.Common.{◌∙◌, ap}
 use Rattle.std.proofs.lemmas.Result.{IfOk-weaker}
 use Rattle.rsb_integer.specs.Runs.{members}
-use Rattle.rsb_integer.proofs.MembersLemmas.{members-append}
-use Rattle.range_set_blaze.proofs.runs.Appended.{members-swapped}
+use Rattle.rsb_integer.proofs.lemmas.Members.{members-append}
+use Rattle.range_set_blaze.proofs.lemmas.runs.Appended.{members-swapped}
 use Rattle.range_set_blaze.proofs.set.RangeSetBlaze.bitor.Goals as goal
 
 -- Of sets that lie apart, the runs of one follow those of the other.

@@ -5,7 +5,7 @@ use Rattle.std.specs.Prelude.{OnErr, Result, Ok, Err}
 use Rattle.std.specs.declared.ops.RangeInclusive.{RangeInclusive}
 use Rattle.rsb_integer.specs.Rank.{interval_of, intervals_of}
 use Rattle.rsb_integer.specs.Runs.{Interval}
-use Rattle.rsb_streams.proofs.sources.Listed.{itself, listed-yields}
+use Rattle.rsb_streams.proofs.lemmas.sources.Listed.{itself, listed-yields}
 use Rattle.range_set_blaze.specs.Algebra.{AddsPrefixOf, AddsItems}
 use Rattle.range_set_blaze.proofs.set.RangeSetBlaze.bitor_assign.Goals as goal
 

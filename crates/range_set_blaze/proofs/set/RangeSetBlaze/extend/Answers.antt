@@ -2,9 +2,9 @@ use Rattle.std.proofs.Common.{◌∷◌, [], arith}
 use Rattle.std.proofs.lemmas.Bool.Decides.{nat_tests}
 use Rattle.std.proofs.lemmas.List.{map-append}
 use Rattle.rsb_integer.specs.Rank.{interval_of, intervals_of}
-use Rattle.rsb_integer.proofs.MembersLemmas.{members-append, members-cons}
+use Rattle.rsb_integer.proofs.lemmas.Members.{members-append, members-cons}
 use Rattle.range_set_blaze.specs.Algebra.{AddsItems}
-use Rattle.rsb_many.proofs.inputs.HandedIn.{ended-run}
+use Rattle.rsb_many.proofs.lemmas.inputs.HandedIn.{ended-run}
 use Rattle.range_set_blaze.proofs.set.RangeSetBlaze.extend.Goals as goal
 
 -- The ranges added so far are those before this one, and this one.

@@ -1,5 +1,5 @@
-use Rattle.range_set_blaze.specs.Kept.{run_of}
-use Rattle.range_set_blaze.proofs.fitting.FirstFits.{fit-from, none-anywhere, none-lower}
+use Rattle.range_set_blaze.specs.Storage.{run_of}
+use Rattle.range_set_blaze.proofs.lemmas.fitting.FirstFits.{fit-from, none-anywhere, none-lower}
 use Rattle.range_set_blaze.proofs.set.RangeSetBlaze.first_gap_from.Goals as goal
 
 -- If every gap is shorter, no block fits.

@@ -1,6 +1,6 @@
 use Rattle.std.proofs.lemmas.Result.{IfOk-weaker}
 use Rattle.rsb_integer.specs.Rank.{interval_of}
-use Rattle.range_set_blaze.proofs.gathering.OneByOne.{members-run_if_any}
+use Rattle.range_set_blaze.proofs.lemmas.gathering.OneByOne.{members-run_if_any}
 use Rattle.range_set_blaze.proofs.set.RangeSetBlaze.from.Goals as goal
 
 -- The set is the only list that the stream of the range may give.

@@ -5,11 +5,11 @@ use Rattle.std.specs.Range.{range_inclusive_start}
 use Rattle.rsb_integer.specs.Rank.{intervals_of}
 use Rattle.rsb_integer.specs.Runs.{members}
 use Rattle.rsb_streams.specs.Stream.{HasSortedStarts}
-use Rattle.rsb_streams.proofs.sorting.Collected.{collects-end, collects-sorted, runs-sorted, Collects}
-use Rattle.rsb_streams.proofs.sorting.Sorted.{IsInOrder}
-use Rattle.rsb_streams.proofs.sources.Vectors.{vec-calls, vec-sorted}
-use Rattle.range_set_blaze.specs.Kept.{IsKept}
-use Rattle.range_set_blaze.proofs.gathering.SetOperations.{set-of_runs}
+use Rattle.rsb_streams.proofs.lemmas.sorting.Collected.{collects-end, collects-sorted, runs-sorted, Collects}
+use Rattle.rsb_streams.proofs.lemmas.sorting.Sorted.{IsInOrder}
+use Rattle.rsb_streams.proofs.lemmas.sources.Vectors.{vec-calls, vec-sorted}
+use Rattle.range_set_blaze.specs.Storage.{IsKept}
+use Rattle.range_set_blaze.proofs.lemmas.gathering.SetOperations.{set-of_runs}
 use Rattle.range_set_blaze.proofs.set.RangeSetBlaze.from_list.Given.{Over}
 use Rattle.range_set_blaze.proofs.set.RangeSetBlaze.from_list.Goals as goal
 

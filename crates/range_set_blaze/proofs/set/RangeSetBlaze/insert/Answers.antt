@@ -1,5 +1,5 @@
 use Rattle.std.proofs.lemmas.Result.{on_ok_weaker}
-use Rattle.range_set_blaze.proofs.insertion.Bounds.{adds-only}
+use Rattle.range_set_blaze.proofs.lemmas.insertion.Bounds.{adds-only}
 use Rattle.range_set_blaze.proofs.set.RangeSetBlaze.insert.Goals as goal
 
 -- The range from a value to itself has only that value.

@@ -1,5 +1,5 @@
-use Rattle.range_set_blaze.specs.Kept.{run_of}
-use Rattle.range_set_blaze.proofs.runs.Counts.{run_count-added}
+use Rattle.range_set_blaze.specs.Storage.{run_of}
+use Rattle.range_set_blaze.proofs.lemmas.runs.Counts.{run_count-added}
 use Rattle.range_set_blaze.proofs.set.RangeSetBlaze.insert_run.Goals as goal
 
 -- One run is added to the runs of the set.

@@ -1,5 +1,5 @@
 use Rattle.std.proofs.Common.{◌∙◌}
-use Rattle.range_set_blaze.proofs.elements.Ranges.{intervals_of-ranges}
+use Rattle.range_set_blaze.proofs.lemmas.elements.Ranges.{intervals_of-ranges}
 use Rattle.range_set_blaze.proofs.set.RangeSetBlaze.into_ranges.Goals as goal
 
 -- The ranges have the intervals of the runs, which are canonical.

@@ -1,5 +1,5 @@
 use Rattle.std.proofs.Common.{false}
-use Rattle.range_set_blaze.proofs.order.KnownTests.{known-test}
+use Rattle.range_set_blaze.proofs.lemmas.order.KnownTests.{known-test}
 use Rattle.range_set_blaze.proofs.set.RangeSetBlaze.is_disjoint.Goals as goal
 
 -- The streams give the runs of the sets.

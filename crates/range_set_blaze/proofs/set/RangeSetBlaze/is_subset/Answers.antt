@@ -1,5 +1,5 @@
 use Rattle.std.proofs.Common.{true}
-use Rattle.range_set_blaze.proofs.order.KnownTests.{known-test}
+use Rattle.range_set_blaze.proofs.lemmas.order.KnownTests.{known-test}
 use Rattle.range_set_blaze.proofs.set.RangeSetBlaze.is_subset.Goals as goal
 
 -- The streams give the runs of the sets.

@@ -1,6 +1,6 @@
 use Rattle.std.proofs.Common.{◌∙◌, ap}
 use Rattle.rsb_integer.specs.Runs.{members}
-use Rattle.rsb_integer.proofs.CountLemmas.{count-agree}
+use Rattle.rsb_integer.proofs.lemmas.Count.{count-agree}
 use Rattle.range_set_blaze.proofs.set.RangeSetBlaze.len_in.Goals as goal
 
 -- The runs that are counted are those between the bounds.

@@ -1,5 +1,5 @@
 use Rattle.std.proofs.Common.{◌∙◌}
-use Rattle.range_set_blaze.proofs.gathering.SetOperations.{set-of_complement}
+use Rattle.range_set_blaze.proofs.lemmas.gathering.SetOperations.{set-of_complement}
 use Rattle.range_set_blaze.proofs.set.RangeSetBlaze.not.Goals as goal
 
 -- The stream gives the gaps of the set.

@@ -5,8 +5,8 @@ use Rattle.rsb_integer.specs.Runs.{members}
 use Rattle.range_set_blaze.specs.Set.{IsSetOf}
 use Rattle.range_set_blaze.specs.Text.{IsFirstUnexpected, Spells}
 use Rattle.range_set_blaze.specs.declared.set.parse.ParseError.TheVariants.{Unexpected}
-use Rattle.range_set_blaze.proofs.texts.Read.{unexpected-none}
-use Rattle.range_set_blaze.proofs.texts.Reread.{ranges_of_runs, runs-spelled, set-reread}
+use Rattle.range_set_blaze.proofs.lemmas.texts.Read.{unexpected-none}
+use Rattle.range_set_blaze.proofs.lemmas.texts.Reread.{ranges_of_runs, runs-spelled, set-reread}
 use Rattle.range_set_blaze.proofs.set.RangeSetBlaze.parse.Goals as goal
 
 -- A text that spells ranges has no unexpected byte.

@@ -3,8 +3,8 @@ use Rattle.std.proofs.lemmas.Bool.Decides.{nat_tests}
 use Rattle.rsb_integer.specs.Rank.{interval_of}
 use Rattle.rsb_integer.specs.Runs.{members, Interval, IsCanonicalIn}
 use Rattle.rsb_streams.specs.Stream.{run_if_any}
-use Rattle.rsb_integer.proofs.RunsLemmas.{canonical-runs}
-use Rattle.rsb_streams.proofs.checking.Fresh.{one-canonical}
+use Rattle.rsb_integer.proofs.lemmas.Runs.{canonical-runs}
+use Rattle.rsb_streams.proofs.lemmas.checking.Fresh.{one-canonical}
 use Rattle.range_set_blaze.proofs.set.RangeSetBlaze.range.Goals as goal
 
 -- The result has the members that the set and the run between the bounds have in common.

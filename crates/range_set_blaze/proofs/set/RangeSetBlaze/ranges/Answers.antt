@@ -1,6 +1,6 @@
 use Rattle.std.proofs.Common.{◌∙◌}
-use Rattle.rsb_integer.proofs.RunsLemmas.{canonical-runs}
-use Rattle.range_set_blaze.proofs.elements.Ranges.{intervals_of-ranges}
+use Rattle.rsb_integer.proofs.lemmas.Runs.{canonical-runs}
+use Rattle.range_set_blaze.proofs.lemmas.elements.Ranges.{intervals_of-ranges}
 use Rattle.range_set_blaze.proofs.set.RangeSetBlaze.ranges.Goals as goal
 
 -- The ranges have the intervals of the runs, which are canonical.

@@ -2,7 +2,7 @@ use Rattle.std.proofs.Common.{◌&&◌, ◌<◌, [], ◌∙◌, ap, arith, refl}
 use Rattle.std.proofs.lemmas.Bool.Decides.{nat_tests}
 use Rattle.std.proofs.lemmas.List.Elements.{All-nil}
 use Rattle.rsb_integer.specs.Runs.{members, Interval}
-use Rattle.rsb_integer.proofs.RunsLemmas.{runs-from_canonical}
+use Rattle.rsb_integer.proofs.lemmas.Runs.{runs-from_canonical}
 use Rattle.range_set_blaze.proofs.set.RangeSetBlaze.ranges_in.Goals as goal
 
 -- Canonical ranges with these members are the runs of them.

@@ -1,4 +1,4 @@
-use Rattle.rsb_integer.proofs.RunsLemmas.{canonical-runs}
+use Rattle.rsb_integer.proofs.lemmas.Runs.{canonical-runs}
 use Rattle.range_set_blaze.proofs.set.RangeSetBlaze.ranges_len.Goals as goal
 
 -- The list of runs is canonical.

@@ -1,9 +1,9 @@
 use Rattle.std.proofs.Common.{◌↔◌, IfOk, IsTrue, OnOk, subst}
 use Rattle.rsb_integer.specs.Runs.{members}
-use Rattle.range_set_blaze.specs.Kept.{run_of}
+use Rattle.range_set_blaze.specs.Storage.{run_of}
 use Rattle.range_set_blaze.specs.RemoveRanges.{HasSome}
 use Rattle.range_set_blaze.specs.Set.{Removes}
-use Rattle.range_set_blaze.proofs.removal.Between.{covers-between}
+use Rattle.range_set_blaze.proofs.lemmas.removal.Between.{covers-between}
 use Rattle.range_set_blaze.proofs.set.RangeSetBlaze.ranges_remove.Goals as goal
 
 -- The ranks between the bounds are those of the run.

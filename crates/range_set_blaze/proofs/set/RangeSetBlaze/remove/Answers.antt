@@ -1,5 +1,5 @@
 use Rattle.std.proofs.Common.{refl}
-use Rattle.range_set_blaze.proofs.runs.Counts.{run_count-removed}
+use Rattle.range_set_blaze.proofs.lemmas.runs.Counts.{run_count-removed}
 use Rattle.range_set_blaze.proofs.set.RangeSetBlaze.remove.Goals as goal
 
 -- One value is removed from the runs of the set.

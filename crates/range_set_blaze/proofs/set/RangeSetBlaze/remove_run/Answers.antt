@@ -1,6 +1,6 @@
 use Rattle.std.proofs.Common.{refl}
-use Rattle.range_set_blaze.specs.Kept.{run_of}
-use Rattle.range_set_blaze.proofs.runs.Counts.{run_count-without}
+use Rattle.range_set_blaze.specs.Storage.{run_of}
+use Rattle.range_set_blaze.proofs.lemmas.runs.Counts.{run_count-without}
 use Rattle.range_set_blaze.proofs.set.RangeSetBlaze.remove_run.Goals as goal
 
 -- The values of one run are removed from the runs of the set.

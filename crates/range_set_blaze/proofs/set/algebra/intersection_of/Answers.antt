@@ -1,4 +1,4 @@
-use Rattle.range_set_blaze.proofs.gathering.SetOperations.{set-of_intersection}
+use Rattle.range_set_blaze.proofs.lemmas.gathering.SetOperations.{set-of_intersection}
 use Rattle.range_set_blaze.proofs.set.algebra.intersection_of.Goals as goal
 
 -- The result has the ranks that the operation selects.

@@ -1,6 +1,6 @@
 use Rattle.std.proofs.Common.{refl}
 use Rattle.rsb_integer.specs.Selection.{exclusive_or}
-use Rattle.range_set_blaze.proofs.gathering.SetOperations.{set-of_operation}
+use Rattle.range_set_blaze.proofs.lemmas.gathering.SetOperations.{set-of_operation}
 use Rattle.range_set_blaze.proofs.set.algebra.symmetric_difference_of.Goals as goal
 
 -- The result has the ranks that the operation selects.

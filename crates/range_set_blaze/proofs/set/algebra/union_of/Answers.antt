@@ -1,5 +1,5 @@
 use Rattle.std.proofs.Common.{◌||◌, refl}
-use Rattle.range_set_blaze.proofs.gathering.SetOperations.{set-of_operation}
+use Rattle.range_set_blaze.proofs.lemmas.gathering.SetOperations.{set-of_operation}
 use Rattle.range_set_blaze.proofs.set.algebra.union_of.Goals as goal
 
 -- The result has the ranks that the operation selects.

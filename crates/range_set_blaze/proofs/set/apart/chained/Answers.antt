@@ -1,6 +1,6 @@
 use Rattle.std.proofs.Common.{arith, subst, sym}
-use Rattle.range_set_blaze.specs.Kept.{IsKept}
-use Rattle.range_set_blaze.proofs.runs.Appended.{appended-fits, appended-kept}
+use Rattle.range_set_blaze.specs.Storage.{IsKept}
+use Rattle.range_set_blaze.proofs.lemmas.runs.Appended.{appended-fits, appended-kept}
 use Rattle.range_set_blaze.proofs.set.apart.chained.Goals as goal
 
 -- The lengths of both sets together fit in the type.

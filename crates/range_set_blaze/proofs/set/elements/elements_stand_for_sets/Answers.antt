@@ -1,4 +1,4 @@
-use Rattle.range_set_blaze.proofs.elements.Listed.{listed-takes}
+use Rattle.range_set_blaze.proofs.lemmas.elements.Listed.{listed-takes}
 use Rattle.range_set_blaze.proofs.set.elements.elements_stand_for_sets.Goals as goal
 
 -- A call takes its element from what was left before it.

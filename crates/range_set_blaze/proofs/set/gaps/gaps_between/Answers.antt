@@ -1,7 +1,7 @@
 use Rattle.std.proofs.Common.{Some}
-use Rattle.range_set_blaze.specs.Kept.{run_of}
-use Rattle.range_set_blaze.proofs.windows.FreeParts.{free-members, within-between}
-use Rattle.range_set_blaze.proofs.windows.GapRanges.{left-canonical, ranges-canonical, ranges-members}
+use Rattle.range_set_blaze.specs.Storage.{run_of}
+use Rattle.range_set_blaze.proofs.lemmas.windows.FreeParts.{free-members, within-between}
+use Rattle.range_set_blaze.proofs.lemmas.windows.GapRanges.{left-canonical, ranges-canonical, ranges-members}
 use Rattle.range_set_blaze.proofs.set.gaps.gaps_between.Goals as goal
 
 -- The runs that start in the free part lie between its ends.

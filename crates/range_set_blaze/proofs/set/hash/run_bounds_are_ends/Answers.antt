@@ -1,4 +1,4 @@
-use Rattle.range_set_blaze.proofs.order.FedRuns.{run_bounds-canonical}
+use Rattle.range_set_blaze.proofs.lemmas.order.FedRuns.{run_bounds-canonical}
 use Rattle.range_set_blaze.proofs.set.hash.run_bounds_are_ends.Goals as goal
 
 pub returns : goal.returns

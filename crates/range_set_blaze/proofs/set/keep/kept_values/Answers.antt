@@ -1,7 +1,7 @@
 use Rattle.std.proofs.Common.{◌≡◌, ◌+◌, ◌<◌, ◌++◌, ◌∷◌, ◌∙◌, [], ap, append-nil, arith, refl}
-use Rattle.range_set_blaze.specs.Kept.{runs_of}
+use Rattle.range_set_blaze.specs.Storage.{runs_of}
 use Rattle.range_set_blaze.specs.Retain.{left_runs, past_piece}
-use Rattle.range_set_blaze.proofs.gathering.AskedValues.{answered-all, answered-next, below-lower, canonical-below, left_runs-next, listed-next, next-member}
+use Rattle.range_set_blaze.proofs.lemmas.gathering.AskedValues.{answered-all, answered-next, below-lower, canonical-below, left_runs-next, listed-next, next-member}
 use Rattle.range_set_blaze.proofs.set.keep.kept_values.Goals as goal
 use Rattle.range_set_blaze.proofs.set.keep.kept_values.Goals.{then-f+in_ok-grown, else-f}
 

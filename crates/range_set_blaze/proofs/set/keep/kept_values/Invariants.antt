@@ -2,7 +2,7 @@
 -- in the piece.
 use Rattle.std.proofs.Common.{◌≡◌, ◌≤◌, IfSome, List, [], None, ◌++◌, length, map}
 use Rattle.range_set_blaze.specs.Retain.{left_runs, past_piece, ascending_ranks, with_piece, IsCanonicalBelow}
-use Rattle.range_set_blaze.proofs.gathering.AskedValues.{HasAnswered}
+use Rattle.range_set_blaze.proofs.lemmas.gathering.AskedValues.{HasAnswered}
 use Rattle.range_set_blaze.proofs.set.keep.kept_values.Given as goal
 
 abbrev pub invariant-loop-left : goal.invariant-loop-left

@@ -1,8 +1,8 @@
 use Rattle.std.proofs.Common.{◌<◌, rules}
 use Rattle.std.specs.Range.{range_inclusive_end, range_inclusive_start}
 use Rattle.rsb_integer.specs.Rank.{interval_of}
-use Rattle.rsb_streams.proofs.checking.Comparisons.{empty-ranks}
-use Rattle.range_set_blaze.proofs.gathering.LentItems.{same-nothing}
+use Rattle.rsb_streams.proofs.lemmas.checking.Comparisons.{empty-ranks}
+use Rattle.range_set_blaze.proofs.lemmas.gathering.LentItems.{same-nothing}
 use Rattle.range_set_blaze.proofs.set.lent_ranges.range_like.Goals as goal
 
 -- A range for which `is_empty` returns true has no ranks, and neither has the returned one.

@@ -1,9 +1,9 @@
 use Rattle.std.proofs.Common.{arith, refl}
 use Rattle.rsb_integer.specs.Runs.{members}
-use Rattle.rsb_integer.proofs.ListLemmas.{not_both}
-use Rattle.range_set_blaze.proofs.runs.Apart.{contained-members, last-gap, none-gap}
-use Rattle.range_set_blaze.proofs.runs.Kept.{lt-fails}
-use Rattle.range_set_blaze.proofs.look_up.Gaps.{contained-around}
+use Rattle.rsb_integer.proofs.lemmas.List.{not_both}
+use Rattle.range_set_blaze.proofs.lemmas.runs.Apart.{contained-members, last-gap, none-gap}
+use Rattle.range_set_blaze.proofs.lemmas.runs.Storage.{lt-fails}
+use Rattle.range_set_blaze.proofs.lemmas.look_up.Gaps.{contained-around}
 use Rattle.range_set_blaze.proofs.set.look_up.run_at.Goals as goal
 
 -- If no run starts at or before the value, it is not a member.
@@ -15,10 +15,10 @@ returns-in_err-run-clause-none g c =
     )
 
 -- If the last of those runs ends below the value, it is not a member.
-pub returns-then-is_below-clause-none : goal.returns-then-is_below-clause-none
-returns-then-is_below-clause-none g c = (
+pub returns-then-ends_before-clause-none : goal.returns-then-ends_before-clause-none
+returns-then-ends_before-clause-none g c = (
   (λ none. last-gap _ _ c.requires.canonical _ _ c.in_ok-run.ensures _
-      (c.is_below.ensures.0 c.if-is_below.true) (omega arith)),
+      (c.ends_before.ensures.0 c.if-ends_before.true) (omega arith)),
   (λ absent. refl),
 )
 
@@ -27,14 +27,14 @@ pub returns-clause-run : goal.returns-clause-run
 returns-clause-run g c =
     let starts = c.in_ok-run.ensures.starts in
     contained-around _ _ c.requires.canonical _ _ c.in_ok-run.ensures.among
-    (omega (arith, starts)) (lt-fails c.is_below.result _ _ c.is_below.ensures c.if-is_below.false)
+    (omega (arith, starts)) (lt-fails c.ends_before.result _ _ c.ends_before.ensures c.if-ends_before.false)
 
 pub returns-clause-none : goal.returns-clause-none
 returns-clause-none g c =
     let starts = c.in_ok-run.ensures.starts in
     let member = contained-members _ _ c.requires.canonical _ (g.T.Integer.rank c.args.value)
     c.in_ok-run.ensures.among (omega (arith, starts))
-    (lt-fails c.is_below.result _ _ c.is_below.ensures c.if-is_below.false) in (
+    (lt-fails c.ends_before.result _ _ c.ends_before.ensures c.if-ends_before.false) in (
       (λ none. absurd (cc)),
       (λ absent. absurd (not_both (members c.args.runs.now
           (g.T.Integer.rank c.args.value)) member absent)),

@@ -1,5 +1,5 @@
 use Rattle.std.proofs.Common.{arith, refl, rules}
-use Rattle.range_set_blaze.proofs.order.CommonFronts.{ends-compared, passing-none, passing-tells, starts-tell}
+use Rattle.range_set_blaze.proofs.lemmas.order.CommonFronts.{ends-compared, passing-none, passing-tells, starts-tell}
 use Rattle.range_set_blaze.proofs.set.order.compare_runs.Goals as goal
 
 -- At first no runs were compared.

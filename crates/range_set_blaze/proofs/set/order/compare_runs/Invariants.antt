@@ -1,7 +1,7 @@
 -- Each iteration takes a run of each list. How the last two compare by their ends, and what is
 -- left, determine the order.
 use Rattle.std.proofs.Common.{length}
-use Rattle.range_set_blaze.proofs.order.CommonFronts.{HasCompared}
+use Rattle.range_set_blaze.proofs.lemmas.order.CommonFronts.{HasCompared}
 use Rattle.range_set_blaze.proofs.set.order.compare_runs.Given as goal
 
 abbrev pub invariant-loop-ends : goal.invariant-loop-ends

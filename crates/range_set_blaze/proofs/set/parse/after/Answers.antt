@@ -1,6 +1,6 @@
 use Rattle.std.proofs.Common.{None, sym, ◌∙◌}
 use Rattle.range_set_blaze.specs.declared.set.parse.Place.TheVariants.{Before, Start}
-use Rattle.range_set_blaze.proofs.texts.Places.{leads-back, start-full}
+use Rattle.range_set_blaze.proofs.lemmas.texts.Places.{leads-back, start-full}
 use Rattle.range_set_blaze.proofs.set.parse.after.Goals as goal
 
 -- At the start of a text, a byte that is not blank leads where it would lead before a number.

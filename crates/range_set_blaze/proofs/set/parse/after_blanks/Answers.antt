@@ -1,6 +1,6 @@
 use Rattle.std.proofs.Common.{false}
 use Rattle.range_set_blaze.specs.declared.set.parse.Place.TheVariants.{Before, Signed}
-use Rattle.range_set_blaze.proofs.texts.Places.{before-plus, before-minus, before-bare, leads-back}
+use Rattle.range_set_blaze.proofs.lemmas.texts.Places.{before-plus, before-minus, before-bare, leads-back}
 use Rattle.range_set_blaze.proofs.set.parse.after_blanks.Goals as goal
 
 pub returns-then-byte-eq43 : goal.returns-then-byte-eq43

@@ -1,5 +1,5 @@
 use Rattle.std.proofs.Common.{refl}
-use Rattle.range_set_blaze.proofs.texts.Places.{digits-ended, digits-found, digits-lacking, leads-back}
+use Rattle.range_set_blaze.proofs.lemmas.texts.Places.{digits-ended, digits-found, digits-lacking, leads-back}
 use Rattle.range_set_blaze.specs.declared.set.parse.Place.TheVariants.{Behind, Digits}
 use Rattle.range_set_blaze.proofs.set.parse.after_digit.Goals as goal
 

@@ -1,5 +1,5 @@
 use Rattle.std.proofs.Common.{sym, ◌∙◌}
-use Rattle.range_set_blaze.proofs.texts.Places.{behind-blank, behind-dot, behind-none, behind-third}
+use Rattle.range_set_blaze.proofs.lemmas.texts.Places.{behind-blank, behind-dot, behind-none, behind-third}
 use Rattle.range_set_blaze.proofs.set.parse.after_number.Goals as goal
 
 pub returns-then-is_blank : goal.returns-then-is_blank

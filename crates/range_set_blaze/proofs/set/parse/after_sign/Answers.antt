@@ -1,4 +1,4 @@
-use Rattle.range_set_blaze.proofs.texts.Places.{signed-found}
+use Rattle.range_set_blaze.proofs.lemmas.texts.Places.{signed-found}
 use Rattle.range_set_blaze.proofs.set.parse.after_sign.Goals as goal
 
 -- The first digit leads to its number.

@@ -1,4 +1,4 @@
-use Rattle.range_set_blaze.proofs.texts.Places.{behind-finishes, digits-finishes}
+use Rattle.range_set_blaze.proofs.lemmas.texts.Places.{behind-finishes, digits-finishes}
 use Rattle.range_set_blaze.proofs.set.parse.finished.Goals as goal
 
 pub returns-in-Digits : goal.returns-in-Digits

@@ -1,7 +1,7 @@
 use Rattle.std.proofs.Common.{◌≡◌, ℕ, ◌∷◌, length, sym, ◌∙◌, subst}
 use Rattle.range_set_blaze.specs.Reading.{Follows}
 use Rattle.range_set_blaze.specs.Text.{IsFirstUnexpected}
-use Rattle.range_set_blaze.proofs.texts.Read.{has_read-nil, has_read-more, has_read-comma, has_read-all, spells-none, only-none, spells-last, only-last, unexpected_byte, unexpected_end}
+use Rattle.range_set_blaze.proofs.lemmas.texts.Read.{has_read-nil, has_read-more, has_read-comma, has_read-all, spells-none, only-none, spells-last, only-last, unexpected_byte, unexpected_end}
 use Rattle.range_set_blaze.proofs.set.parse.spelled_ranges.Goals as goal
 use Rattle.range_set_blaze.proofs.set.parse.spelled_ranges.Goals.{then-byte-eq44+in-Some+in_ok-push, else-byte-eq44+in-Some-after}
 

@@ -1,7 +1,7 @@
 -- The members of the runs that were passed are counted.
 use Rattle.std.proofs.Common.{length}
-use Rattle.range_set_blaze.specs.Kept.{runs_of}
-use Rattle.range_set_blaze.proofs.ranking.Counted.{AreCounted}
+use Rattle.range_set_blaze.specs.Storage.{runs_of}
+use Rattle.range_set_blaze.proofs.lemmas.ranking.Counted.{AreCounted}
 use Rattle.range_set_blaze.proofs.set.ranked.count_below.Given as goal
 
 abbrev pub invariant-loop-run : goal.invariant-loop-run

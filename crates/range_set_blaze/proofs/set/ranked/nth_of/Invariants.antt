@@ -1,7 +1,7 @@
 -- The runs that were passed lie below the n-th member.
 use Rattle.std.proofs.Common.{length}
-use Rattle.range_set_blaze.specs.Kept.{runs_of}
-use Rattle.range_set_blaze.proofs.ranking.Counted.{AreLeft}
+use Rattle.range_set_blaze.specs.Storage.{runs_of}
+use Rattle.range_set_blaze.proofs.lemmas.ranking.Counted.{AreLeft}
 use Rattle.range_set_blaze.proofs.set.ranked.nth_of.Given as goal
 
 abbrev pub invariant-loop-run : goal.invariant-loop-run

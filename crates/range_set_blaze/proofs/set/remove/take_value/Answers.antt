@@ -1,11 +1,11 @@
 use Rattle.std.proofs.Common.{◌+◌, arith, inl, inr}
 use Rattle.std.proofs.lemmas.Bool.{cases_lt}
 use Rattle.rsb_integer.specs.Runs.{members}
-use Rattle.rsb_integer.proofs.CountLemmas.{count-within}
-use Rattle.rsb_integer.proofs.ListLemmas.{not_both}
-use Rattle.range_set_blaze.proofs.removal.Cuts.{removes-only}
-use Rattle.range_set_blaze.proofs.runs.Apart.{contained-members, last-gap, none-gap}
-use Rattle.range_set_blaze.proofs.runs.Kept.{lt-fails}
+use Rattle.rsb_integer.proofs.lemmas.Count.{count-within}
+use Rattle.rsb_integer.proofs.lemmas.List.{not_both}
+use Rattle.range_set_blaze.proofs.lemmas.removal.Cuts.{removes-only}
+use Rattle.range_set_blaze.proofs.lemmas.runs.Apart.{contained-members, last-gap, none-gap}
+use Rattle.range_set_blaze.proofs.lemmas.runs.Storage.{lt-fails}
 use Rattle.range_set_blaze.proofs.set.remove.take_value.Goals as goal
 
 -- If no run starts at or before the value, it is not a member.
@@ -14,17 +14,17 @@ returns-in_default-clause-none g c none =
     none-gap _ _ c.requires.kept.canonical _ c.in_default.ensures _ (omega arith)
 
 -- If the last of those runs ends below the value, it is not a member.
-pub returns-then-is_below-clause-none : goal.returns-then-is_below-clause-none
-returns-then-is_below-clause-none g c none =
+pub returns-then-ends_before-clause-none : goal.returns-then-ends_before-clause-none
+returns-then-ends_before-clause-none g c none =
     last-gap _ _ c.requires.kept.canonical _ _ c.in-Some.ensures _
-    (c.is_below.ensures.0 c.if-is_below.true) (omega arith)
+    (c.ends_before.ensures.0 c.if-ends_before.true) (omega arith)
 
 -- Otherwise that run has the value.
 pub returns-clause-some : goal.returns-clause-some
 returns-clause-some g c some =
     let starts = c.in-Some.ensures.starts in
     contained-members _ _ c.requires.kept.canonical _ _ c.in-Some.ensures.among
-    (omega (arith, starts)) (lt-fails c.is_below.result _ _ c.is_below.ensures c.if-is_below.false)
+    (omega (arith, starts)) (lt-fails c.ends_before.result _ _ c.ends_before.ensures c.if-ends_before.false)
 
 -- If an allocation fails, the value is a member.
 pub returns-in_err-cut-clause-absent : goal.returns-in_err-cut-clause-absent
@@ -32,7 +32,7 @@ returns-in_err-cut-clause-absent g c absent =
     let starts = c.in-Some.ensures.starts in
     absurd (not_both (members c.args.runs.now (g.T.Integer.rank c.args.value))
     (contained-members _ _ c.requires.kept.canonical _ _ c.in-Some.ensures.among
-    (omega (arith, starts)) (lt-fails c.is_below.result _ _ c.is_below.ensures c.if-is_below.false))
+    (omega (arith, starts)) (lt-fails c.ends_before.result _ _ c.ends_before.ensures c.if-ends_before.false))
     absent)
 
 pub returns-in_err-cut-clause-succeeds : goal.returns-in_err-cut-clause-succeeds

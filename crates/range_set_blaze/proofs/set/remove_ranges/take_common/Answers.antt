@@ -1,7 +1,7 @@
 use Rattle.std.proofs.Common.{arith}
 use Rattle.rsb_integer.specs.Runs.{members}
-use Rattle.rsb_integer.proofs.CountLemmas.{count-within}
-use Rattle.range_set_blaze.proofs.removal.Meeting.{meeting-value, piece-ends, piece-from, piece-order, piece-to, taken-counted, taken-ends, taken-outside}
+use Rattle.rsb_integer.proofs.lemmas.Count.{count-within}
+use Rattle.range_set_blaze.proofs.lemmas.removal.Meeting.{meeting-value, piece-ends, piece-from, piece-order, piece-to, taken-counted, taken-ends, taken-outside}
 use Rattle.range_set_blaze.proofs.set.remove_ranges.take_common.Goals as goal
 
 -- The run starts and ends within the type.

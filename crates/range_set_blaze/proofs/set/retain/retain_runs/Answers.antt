@@ -1,7 +1,7 @@
 use Rattle.std.proofs.Common.{[], arith, refl}
 use Rattle.rsb_integer.specs.Runs.{members}
-use Rattle.rsb_integer.proofs.CountLemmas.{count-within}
-use Rattle.range_set_blaze.proofs.retaining.Retained.{fewer-to_come, next-asked, next-joined, next-maximal, retaining-next}
+use Rattle.rsb_integer.proofs.lemmas.Count.{count-within}
+use Rattle.range_set_blaze.proofs.lemmas.retaining.Retained.{fewer-to_come, next-asked, next-joined, next-maximal, retaining-next}
 use Rattle.range_set_blaze.proofs.set.retain.retain_runs.Goals as goal
 use Rattle.range_set_blaze.proofs.set.retain.retain_runs.Goals.{then-not-f, else-not-f}
 

@@ -1,5 +1,5 @@
 -- The closure was called on a prefix of the runs. Of these, the map still has those that are kept.
-use Rattle.range_set_blaze.proofs.retaining.Retained.{to_come, IsRetaining}
+use Rattle.range_set_blaze.proofs.lemmas.retaining.Retained.{to_come, IsRetaining}
 use Rattle.range_set_blaze.proofs.set.retain.retain_runs.Given as goal
 
 abbrev pub invariant-loop-next : goal.invariant-loop-next

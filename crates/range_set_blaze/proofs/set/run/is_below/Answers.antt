@@ -1,6 +1,6 @@
 use Rattle.std.proofs.Common.{◌∙◌, sym}
 use Rattle.std.proofs.lemmas.Bool.{lt-ltb, ltb-true}
-use Rattle.rsb_streams.proofs.checking.Comparisons.{less-by}
+use Rattle.rsb_streams.proofs.lemmas.checking.Comparisons.{less-by}
 use Rattle.range_set_blaze.proofs.set.run.is_below.Goals as goal
 
 -- Values are ordered as their ranks are.

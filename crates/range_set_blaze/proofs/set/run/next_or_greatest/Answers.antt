@@ -1,7 +1,7 @@
 use Rattle.std.proofs.Common.{◌≡◌, ℕ, ◌+◌, ◌-◌, ◌<◌, min, Option, Some, None, refl, arith, ◌∙◌, ap}
 use Rattle.std.specs.Prelude.{◌↔◌, IfSome, IsNone}
 use Rattle.std.specs.Option.{unwrap_or}
-use Rattle.rsb_streams.proofs.checking.Comparisons.{next-value}
+use Rattle.rsb_streams.proofs.lemmas.checking.Comparisons.{next-value}
 use Rattle.range_set_blaze.proofs.set.run.next_or_greatest.Goals as goal
 
 -- A next value has the next rank. If there is none, the value itself has the last rank of the type.

@@ -1,6 +1,6 @@
 use Rattle.std.proofs.Common.{arith}
 use Rattle.std.proofs.lemmas.Bool.{true≢false}
-use Rattle.range_set_blaze.proofs.runs.Kept.{lt-fails}
+use Rattle.range_set_blaze.proofs.lemmas.runs.Storage.{lt-fails}
 use Rattle.range_set_blaze.proofs.set.run.previous.Goals as goal
 
 -- A value that is not the least one has a value before it.

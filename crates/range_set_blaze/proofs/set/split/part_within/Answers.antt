@@ -1,15 +1,15 @@
 use Rattle.std.proofs.Common.{◌≡◌, ◌∙◌, Contains, List, OnOk, ap, refl, sym, subst}
 use Rattle.rsb_integer.specs.Runs.{Interval}
-use Rattle.range_set_blaze.specs.Kept.{run_of}
-use Rattle.range_set_blaze.specs.Starts.{below, starting_from, with_run, without_start}
-use Rattle.range_set_blaze.proofs.splitting.Parting.{within-parting, within-there, within-without}
+use Rattle.range_set_blaze.specs.Storage.{run_of}
+use Rattle.range_set_blaze.specs.Starts.{runs_below, starting_from, with_run, without_start}
+use Rattle.range_set_blaze.proofs.lemmas.splitting.Parting.{within-parting, within-there, within-without}
 use Rattle.range_set_blaze.proofs.set.split.part_within.Goals as goal
 
 -- One of those has the start of the run, so the insertion does not fail.
 pub unwrap-requires : goal.unwrap-requires
 unwrap-requires g c =
     let low = c.in-Ok.ensures.low
-    ∙ ap (below (g.T.Integer.rank c.args.key)) c.in_ok-put.ensures.runs in
+    ∙ ap (runs_below (g.T.Integer.rank c.args.key)) c.in_ok-put.ensures.runs in
     c.put-in-Ok.ensures.succeeds (run_of g.T.Integer.rank c.args.run)
     (subst (λ (runs : List Interval). Contains runs (run_of g.T.Integer.rank c.args.run)) (sym low)
     (within-there _ _ c.requires.canonical _ (run_of g.T.Integer.rank c.args.run)
@@ -27,7 +27,7 @@ returns-in-Ok-clause-parting g c =
     ≡ with_run low c.split_off.new.self)) c.unwrap.ensures
     c.put-in-Ok.ensures.runs in
     let is_low = put ∙ ap (with_run low) (c.in-Ok.ensures.low
-    ∙ ap (below (rank c.args.key)) c.in_ok-put.ensures.runs) in
+    ∙ ap (runs_below (rank c.args.key)) c.in_ok-put.ensures.runs) in
     let is_high = c.in-Ok.ensures.high
     ∙ ap (starting_from (rank c.args.key)) c.in_ok-put.ensures.runs in
     rw (is_low, is_high)

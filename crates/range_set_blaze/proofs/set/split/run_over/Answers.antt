@@ -1,7 +1,7 @@
 use Rattle.std.proofs.Common.{subst}
-use Rattle.range_set_blaze.specs.Kept.{run_of}
+use Rattle.range_set_blaze.specs.Storage.{run_of}
 use Rattle.range_set_blaze.specs.Starts.{IsLastBelow, NoneBelow}
-use Rattle.range_set_blaze.proofs.splitting.Parting.{last-over}
+use Rattle.range_set_blaze.proofs.lemmas.splitting.Parting.{last-over}
 use Rattle.range_set_blaze.proofs.set.split.run_over.Goals as goal
 
 -- If no run starts below the key, none extends over it.
@@ -12,9 +12,9 @@ returns-in_err-run g c =
     c.in_ok-before.ensures.some c.in_err-run.ensures run found starts)
 
 -- If the last of those runs ends below the key, none extends over it.
-pub returns-then-is_below : goal.returns-then-is_below
-returns-then-is_below g c =
+pub returns-then-ends_before : goal.returns-then-ends_before
+returns-then-ends_before g c =
     last-over _ _ c.requires.canonical _ _
     (subst (λ bound. IsLastBelow c.args.runs.now bound
     (run_of g.T.Integer.rank c.in_ok-run.run')) c.in_ok-before.ensures.some c.in_ok-run.ensures)
-    (c.is_below.ensures.0 c.if-is_below.true)
+    (c.ends_before.ensures.0 c.if-ends_before.true)

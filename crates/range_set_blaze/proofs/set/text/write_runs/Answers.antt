@@ -1,7 +1,7 @@
 use Rattle.std.proofs.Common.{List, [], Ok, refl, subst, rules}
 use Rattle.std.specs.Fmt.{WritesOnOk, debug_items}
 use Rattle.range_set_blaze.specs.Written.{ends_text}
-use Rattle.range_set_blaze.proofs.texts.Pieces.{WritesOn, if_some, if_some_at, writes_on-none, writes_on-more, writes_on-all}
+use Rattle.range_set_blaze.proofs.lemmas.texts.Pieces.{WritesOn, if_some, if_some_at, writes_on-none, writes_on-more, writes_on-all}
 use Rattle.range_set_blaze.proofs.set.text.write_runs.Goals as goal
 
 pub loop-run-init : goal.loop-run-init

@@ -1,6 +1,6 @@
 use Rattle.std.proofs.Common.{length}
 use Rattle.range_set_blaze.specs.Written.{ends_text}
-use Rattle.range_set_blaze.proofs.texts.Pieces.{WritesOn}
+use Rattle.range_set_blaze.proofs.lemmas.texts.Pieces.{WritesOn}
 use Rattle.range_set_blaze.proofs.set.text.write_runs.Given as goal
 use denote.Shadow.{shadow}
 use denote.Text.{Utf8}

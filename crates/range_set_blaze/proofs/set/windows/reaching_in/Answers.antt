@@ -1,5 +1,5 @@
 use Rattle.std.proofs.Common.{refl}
-use Rattle.range_set_blaze.specs.Kept.{run_of}
+use Rattle.range_set_blaze.specs.Storage.{run_of}
 use Rattle.range_set_blaze.proofs.set.windows.reaching_in.Goals as goal
 
 -- A run that starts before the value and contains it reaches into the window.

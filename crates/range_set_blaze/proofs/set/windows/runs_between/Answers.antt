@@ -1,4 +1,4 @@
-use Rattle.range_set_blaze.proofs.windows.Kept.{held-canonical, held-members}
+use Rattle.range_set_blaze.proofs.lemmas.windows.Kept.{held-canonical, held-members}
 use Rattle.range_set_blaze.proofs.set.windows.runs_between.Goals as goal
 
 -- The part that reaches in and the runs that start in the window have the members of the window.

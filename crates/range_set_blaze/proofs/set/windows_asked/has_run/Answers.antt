@@ -1,12 +1,12 @@
-use Rattle.range_set_blaze.specs.Kept.{run_of}
-use Rattle.range_set_blaze.proofs.removal.Meeting.{has-told, none-has}
+use Rattle.range_set_blaze.specs.Storage.{run_of}
+use Rattle.range_set_blaze.proofs.lemmas.removal.Meeting.{has-told, none-has}
 use Rattle.range_set_blaze.proofs.set.windows_asked.has_run.Goals as goal
 
 -- The set has all of the range exactly if the last run that starts at or before its start does.
 pub returns-in-Some : goal.returns-in-Some
 returns-in-Some g c =
     has-told _ _ c.requires.canonical (run_of g.T.Integer.rank c.args.range) c.requires.order _
-    c.in-Some.ensures c.is_below.result c.is_below.ensures
+    c.in-Some.ensures c.ends_before.result c.ends_before.ensures
 
 -- If there is no such run, the start of the range is not a member.
 pub returns-in-None : goal.returns-in-None

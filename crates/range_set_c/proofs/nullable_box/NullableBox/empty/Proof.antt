@@ -26,7 +26,7 @@ use Rattle.std.proofs.alloc.Calls.{handle_tells}
 use Rattle.std.proofs.ResultValues.{and_tt}
 use Rattle.std.proofs.raw_atomic.Walks.{proved_at}
 use Rattle.std.specs.contracts.alloc.Global as Heap
-use Rattle.range_set_c.proofs.NullableBoxForm.{E as form, Row, both, the_type, type_args}
+use Rattle.range_set_c.proofs.lemmas.NullableBoxForm.{E as form, Row, both, the_type, type_args}
 use Rattle.range_set_c.specs.contracts.nullable_box.NullableBox.empty as F
 use Rattle.range_set_c.specs.contracts.nullable_box.NullableBox.empty.Key.{name as #self}
 use Rattle.range_set_c.proofs.nullable_box.NullableBox.empty.Statement.{statement}

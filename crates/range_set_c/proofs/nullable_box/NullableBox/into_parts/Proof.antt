@@ -38,7 +38,7 @@ use Rattle.std.proofs.BoxSteps.Steps.{box_in}
 use Rattle.std.proofs.GlobalToken.{dealloc_token-Testable}
 use Rattle.std.proofs.ResultValues.{and_tt}
 use Rattle.std.proofs.raw_atomic.Walks.{proved_at}
-use Rattle.range_set_c.proofs.NullableBoxForm.{E as form, Row, Parts, both, type_args}
+use Rattle.range_set_c.proofs.lemmas.NullableBoxForm.{E as form, Row, Parts, both, type_args}
 use Rattle.range_set_c.specs.NullableBox.{nullable_owns}
 use Rattle.range_set_c.specs.declared.nullable_box.Empty.{Ghosts}
 use Rattle.range_set_c.specs.contracts.nullable_box.NullableBox.into_parts as F

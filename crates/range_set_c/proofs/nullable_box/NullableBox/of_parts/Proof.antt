@@ -22,7 +22,7 @@ use Rattle.std.proofs.alloc.Calls.{Goes-blank}
 use Rattle.std.proofs.BoxSteps.Form.{D, B, word, box_typed}
 use Rattle.std.proofs.BoxSteps.Steps.{box_out, box_in}
 use Rattle.std.proofs.raw_atomic.Walks.{proved_at}
-use Rattle.range_set_c.proofs.NullableBoxForm.{E as form, Row, Parts, type_args}
+use Rattle.range_set_c.proofs.lemmas.NullableBoxForm.{E as form, Row, Parts, type_args}
 use Rattle.range_set_c.specs.contracts.nullable_box.NullableBox.of_parts as F
 use Rattle.range_set_c.specs.contracts.nullable_box.NullableBox.of_parts.Key.{name as #self}
 use Rattle.range_set_c.proofs.nullable_box.NullableBox.of_parts.Statement.{statement}

@@ -44,7 +44,7 @@ use Rattle.std.proofs.option.Made.{Some-of, none_of}
 use Rattle.std.proofs.BoxSteps.Form.{Bx, τ, handle, R as Param}
 use Rattle.std.proofs.GlobalToken.{dealloc_token-Testable}
 use Rattle.std.proofs.raw_atomic.Walks.{proved}
-use Rattle.range_set_c.proofs.NullableBoxForm.{E as form, Row, both, the_type, type_args}
+use Rattle.range_set_c.proofs.lemmas.NullableBoxForm.{E as form, Row, both, the_type, type_args}
 use Rattle.range_set_c.specs.NullableBox.{nullable_owns}
 use Rattle.range_set_c.specs.declared.nullable_box.Empty.{Ghosts}
 use Rattle.range_set_c.specs.contracts.nullable_box.NullableBox.open as F

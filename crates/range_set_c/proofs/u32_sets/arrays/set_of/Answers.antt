@@ -1,6 +1,6 @@
 -- Written by tools/c/narrow from proofs/u64_sets/arrays/set_of/Answers.antt.
 use Rattle.range_set_c.specs.U32Runs.{interval_of_run}
-use Rattle.range_set_c.proofs.Arrays.{one-more}
+use Rattle.range_set_c.proofs.lemmas.Arrays.{one-more}
 use Rattle.range_set_c.proofs.u32_sets.arrays.set_of.Goals as goal
 
 -- The set gets the values of one run more.

@@ -3,7 +3,7 @@ use Rattle.std.proofs.Common.{◌^◌}
 use Rattle.rsb_integer.specs.Rank.{intervals_of}
 use Rattle.rsb_integer.specs.Runs.{IsCanonicalIn}
 use Rattle.range_set_c.specs.U32Runs.{interval_of_run}
-use Rattle.range_set_c.proofs.Filling.{IsFilling}
+use Rattle.range_set_c.proofs.lemmas.Filling.{IsFilling}
 use Rattle.range_set_c.proofs.u32_sets.runs.store_runs.Given as goal
 
 -- The array has the first ranges, and those that are left are canonical.

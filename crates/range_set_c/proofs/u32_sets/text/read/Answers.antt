@@ -1,6 +1,6 @@
 -- Written by tools/c/narrow from proofs/u64_sets/text/read/Answers.antt.
 use Rattle.std.proofs.Common.{Err, ap, ◌∙◌, lit≤}
-use Rattle.range_set_c.proofs.SetText.{is-read, unread-bytes, unread-string}
+use Rattle.range_set_c.proofs.lemmas.SetText.{is-read, unread-bytes, unread-string}
 use Rattle.range_set_c.proofs.u32_sets.text.read.Goals as goal
 
 -- The bytes are no string.

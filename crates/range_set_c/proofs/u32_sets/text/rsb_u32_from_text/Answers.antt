@@ -4,7 +4,7 @@ use Rattle.std.proofs.lemmas.Bool.{eqb-true}
 use Rattle.std.proofs.lemmas.List.{nil_from_length}
 use Rattle.range_set_c.specs.SetText.{IsRead}
 use Rattle.range_set_c.specs.declared.u32_sets.kept.Kept.{Kept}
-use Rattle.range_set_c.proofs.SetText.{nothing-read}
+use Rattle.range_set_c.proofs.lemmas.SetText.{nothing-read}
 use Rattle.range_set_c.proofs.u32_sets.text.rsb_u32_from_text.Goals as goal
 
 -- Empty text lists no ranges.

@@ -1,7 +1,7 @@
 -- Written by tools/c/narrow from proofs/u64_sets/text/text_of_set/Answers.antt.
 use Rattle.std.proofs.Common.{ℕ, List, Option, IfSome, ◌≡◌, subst}
 use Rattle.std.specs.String.{string_bytes}
-use Rattle.range_set_c.proofs.SetText.{text-written}
+use Rattle.range_set_c.proofs.lemmas.SetText.{text-written}
 use Rattle.range_set_c.proofs.u32_sets.text.text_of_set.Goals as goal
 
 -- `Display` writes the text of the set.

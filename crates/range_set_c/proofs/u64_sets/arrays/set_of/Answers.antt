@@ -1,5 +1,5 @@
 use Rattle.range_set_c.specs.U64Runs.{interval_of_run}
-use Rattle.range_set_c.proofs.Arrays.{one-more}
+use Rattle.range_set_c.proofs.lemmas.Arrays.{one-more}
 use Rattle.range_set_c.proofs.u64_sets.arrays.set_of.Goals as goal
 
 -- The set gets the values of one run more.

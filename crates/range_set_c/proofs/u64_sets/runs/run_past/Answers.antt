@@ -1,6 +1,6 @@
 use Rattle.std.proofs.Common.{refl, arith}
 use Rattle.rsb_integer.specs.Runs.{from_to}
-use Rattle.range_set_c.proofs.Walk.{first-after, found-after, none-after, skips-none, skips-run}
+use Rattle.range_set_c.proofs.lemmas.Walk.{first-after, found-after, none-after, skips-none, skips-run}
 use Rattle.range_set_c.proofs.u64_sets.runs.run_past.Goals as goal
 
 -- No run has a value past the given one.

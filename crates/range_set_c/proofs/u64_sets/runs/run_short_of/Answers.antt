@@ -1,6 +1,6 @@
 use Rattle.std.proofs.Common.{refl, arith}
 use Rattle.rsb_integer.specs.Runs.{from_to}
-use Rattle.range_set_c.proofs.Walk.{found-before, last-before, none-before, skips-back_none, skips-back_run}
+use Rattle.range_set_c.proofs.lemmas.Walk.{found-before, last-before, none-before, skips-back_none, skips-back_run}
 use Rattle.range_set_c.proofs.u64_sets.runs.run_short_of.Goals as goal
 
 -- No run has a value before the given one.

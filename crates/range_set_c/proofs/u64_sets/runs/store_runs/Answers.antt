@@ -1,7 +1,7 @@
 use Rattle.std.proofs.Common.{ap, ◌^◌, arith}
 use Rattle.rsb_integer.specs.Rank.{intervals_of}
 use Rattle.range_set_c.specs.U64Runs.{interval_of_run}
-use Rattle.range_set_c.proofs.Filling.{begins-ended, begins-full, runs-between}
+use Rattle.range_set_c.proofs.lemmas.Filling.{begins-ended, begins-full, runs-between}
 use Rattle.range_set_c.proofs.u64_sets.runs.store_runs.Goals as goal
 
 -- No range is left.

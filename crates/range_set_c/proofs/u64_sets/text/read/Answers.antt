@@ -1,5 +1,5 @@
 use Rattle.std.proofs.Common.{Err, ap, ◌∙◌, lit≤}
-use Rattle.range_set_c.proofs.SetText.{is-read, unread-bytes, unread-string}
+use Rattle.range_set_c.proofs.lemmas.SetText.{is-read, unread-bytes, unread-string}
 use Rattle.range_set_c.proofs.u64_sets.text.read.Goals as goal
 
 -- The bytes are no string.

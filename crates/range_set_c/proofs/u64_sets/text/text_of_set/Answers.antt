@@ -1,6 +1,6 @@
 use Rattle.std.proofs.Common.{ℕ, List, Option, IfSome, ◌≡◌, subst}
 use Rattle.std.specs.String.{string_bytes}
-use Rattle.range_set_c.proofs.SetText.{text-written}
+use Rattle.range_set_c.proofs.lemmas.SetText.{text-written}
 use Rattle.range_set_c.proofs.u64_sets.text.text_of_set.Goals as goal
 
 -- `Display` writes the text of the set.

@@ -30,7 +30,7 @@ use Rattle.std.proofs.BoxSteps.Form.{Bx, D, B, args, box_ty, word, box_typed}
 use Rattle.std.proofs.BoxSteps.Steps.{box_out, box_in}
 use Rattle.std.specs.contracts.boxed.Box.from_raw as callee
 use Rattle.std.proofs.boxed.Box.from_raw.Met as callee_met
-use Rattle.range_set_c.proofs.UnboxedForm.{Row, box_of}
+use Rattle.range_set_c.proofs.lemmas.UnboxedForm.{Row, box_of}
 use Rattle.range_set_c.specs.contracts.unboxed.Unboxed.into_box as F
 use Rattle.range_set_c.specs.contracts.unboxed.Unboxed.into_box.Key.{name as #self}
 use Rattle.range_set_c.proofs.unboxed.Unboxed.into_box.Statement.{statement}

@@ -33,7 +33,7 @@ use Rattle.std.proofs.BoxSteps.Form.{Bx, D, τ, R, P, B, word, box_typed}
 use Rattle.std.proofs.BoxSteps.Steps.{box_out, box_in}
 use Rattle.std.specs.contracts.boxed.Box.into_raw_with_allocator as callee
 use Rattle.std.proofs.boxed.Box.into_raw_with_allocator.Met as callee_met
-use Rattle.range_set_c.proofs.UnboxedForm.{Row, parts_of}
+use Rattle.range_set_c.proofs.lemmas.UnboxedForm.{Row, parts_of}
 use Rattle.range_set_c.specs.contracts.unboxed.Unboxed.of as F
 use Rattle.range_set_c.specs.contracts.unboxed.Unboxed.of.Key.{name as #self}
 use Rattle.range_set_c.proofs.unboxed.Unboxed.of.Statement.{statement}

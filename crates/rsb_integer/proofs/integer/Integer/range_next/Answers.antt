@@ -2,7 +2,7 @@ use Rattle.std.proofs.Common.{◌≡◌, false, refl, arith, rules}
 use Rattle.std.proofs.lemmas.Bool.Decides.{nat_tests}
 use Rattle.std.specs.Range.{range_inclusive_exhausted}
 use Rattle.rsb_integer.specs.Rank.{interval_of}
-use Rattle.rsb_integer.proofs.RangeLemmas.{interval_of-ends}
+use Rattle.rsb_integer.proofs.lemmas.Range.{interval_of-ends}
 use Rattle.rsb_integer.proofs.integer.Integer.range_next.Goals as goal
 use Rattle.rsb_integer.proofs.integer.Integer.range_next.Goals.{then-lt, else-lt}
 

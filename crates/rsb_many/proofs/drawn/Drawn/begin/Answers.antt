@@ -1,6 +1,6 @@
 use Rattle.std.proofs.Common.{arith}
-use Rattle.rsb_many.proofs.inputs.Begun.{begun-all, begun-can, begun-first, begun-next}
-use Rattle.rsb_streams.proofs.sources.Known.{IsLawful}
+use Rattle.rsb_many.proofs.lemmas.inputs.Begun.{begun-all, begun-can, begun-first, begun-next}
+use Rattle.rsb_streams.proofs.lemmas.sources.Known.{IsLawful}
 use Rattle.rsb_many.proofs.drawn.Drawn.begin.Given.{Over}
 use Rattle.rsb_many.proofs.drawn.Drawn.begin.Goals as goal
 

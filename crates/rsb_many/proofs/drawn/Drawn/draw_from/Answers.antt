@@ -1,8 +1,8 @@
 use Rattle.std.proofs.Common.{ap, refl, subst, sym, ◌∙◌, Some, None}
 use Rattle.std.specs.Prelude.{IfSome}
-use Rattle.rsb_many.proofs.inputs.Drawn.{values-drawn}
-use Rattle.rsb_many.proofs.inputs.Places.{slice_get-get_or}
-use Rattle.rsb_streams.proofs.sources.Known.{IsLawful}
+use Rattle.rsb_many.proofs.lemmas.inputs.Drawn.{values-drawn}
+use Rattle.rsb_many.proofs.lemmas.inputs.Places.{slice_get-get_or}
+use Rattle.rsb_streams.proofs.lemmas.sources.Known.{IsLawful}
 use Rattle.rsb_many.proofs.drawn.Drawn.draw_from.Given.{Over}
 use Rattle.rsb_many.proofs.drawn.Drawn.draw_from.Goals as goal
 

@@ -1,6 +1,6 @@
 use Rattle.std.proofs.Common.{refl, sym, ◌∙◌}
-use Rattle.rsb_many.proofs.inputs.Drawn.{refills, refills-none}
-use Rattle.rsb_streams.proofs.sources.Known.{IsLawful}
+use Rattle.rsb_many.proofs.lemmas.inputs.Drawn.{refills, refills-none}
+use Rattle.rsb_streams.proofs.lemmas.sources.Known.{IsLawful}
 use Rattle.rsb_many.proofs.drawn.Drawn.refill.Given.{Over}
 use Rattle.rsb_many.proofs.drawn.Drawn.refill.Goals as goal
 

@@ -1,8 +1,8 @@
 use Rattle.std.proofs.Common.{◌≡◌, ◌+◌, ◌≤◌, drop, length, sym, ap, subst, arith, IsPermutation}
 use Rattle.std.proofs.lemmas.List.Elements.{All-drop}
 use Rattle.std.proofs.lemmas.List.Sorted.{length_permutation, All-permutation, IsPermutation-refl}
-use Rattle.rsb_many.specs.Heads.{binary_digits, closing, standing, HasValues}
-use Rattle.rsb_many.proofs.heap.Heads.{agreed-heap, closed-kept}
+use Rattle.rsb_many.specs.Heads.{binary_digits, closing_bound, counted_heads, HasValues}
+use Rattle.rsb_many.proofs.lemmas.heap.Heads.{agreed-heap, closed-kept}
 use Rattle.rsb_many.proofs.heads.Heads.close.Given.{Over}
 use Rattle.rsb_many.proofs.heads.Heads.close.Goals as goal
 
@@ -51,7 +51,7 @@ invariant_of-self g c =
 pub returns-then-self-clause-kept : goal.returns-then-self-clause-kept
 returns-then-self-clause-kept g c =
     subst (λ before. IsPermutation before.heads c.sift_down.new.self.heads.items) c.self.view_is
-    (subst (λ is_open. IsPermutation (standing is_open c.self.inside.list.heads.items)
+    (subst (λ is_open. IsPermutation (counted_heads is_open c.self.inside.list.heads.items)
     c.sift_down.new.self.heads.items) (sym c.if-self.true) (moved g c))
 
 -- The only comparisons are those of the sift.
@@ -60,5 +60,6 @@ returns-then-self-clause-compared g c =
     let old = c.self.inside.list.heads.items in
     let new = c.sift_down.new.self.heads.items in
     let same = ap binary_digits (length_permutation (drop 1 old) new (moved g c)) in
-    subst (λ before. c.sift_down.new.self.comparisons.made ≤ before.comparisons + closing before)
+    subst (λ before. c.sift_down.new.self.comparisons.made ≤ before.comparisons
+    + closing_bound before)
     c.self.view_is (rw c.if-self.true (omega (arith, c.sift_down.ensures.compared, same)))

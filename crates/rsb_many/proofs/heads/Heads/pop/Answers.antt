@@ -4,8 +4,8 @@ use Rattle.std.proofs.lemmas.List.{nil_from_length}
 use Rattle.std.proofs.lemmas.List.Sorted.{length_permutation, IsPermutation-refl}
 use Rattle.std.specs.Prelude.{IsFalse}
 use Rattle.std.specs.Vec.{vec_len}
-use Rattle.rsb_many.specs.Heads.{closing, standing, HasValues}
-use Rattle.rsb_many.proofs.heap.Heads.{fact-at, first-drop, first-least_of}
+use Rattle.rsb_many.specs.Heads.{closing_bound, counted_heads, HasValues}
+use Rattle.rsb_many.proofs.lemmas.heap.Heads.{fact-at, first-drop, first-least_of}
 use Rattle.rsb_many.proofs.heads.Heads.pop.Given.{Over}
 use Rattle.rsb_many.proofs.heads.Heads.pop.Goals as goal
 
@@ -19,7 +19,7 @@ returns-then-is_empty-clause-taken g c =
     let closed : c.self.inside.is_open ≡ false =
     subst (λ kept. IsFalse kept.is_open) (sym c.self.view_is) c.close.ensures.closed in
     let now : c.close.new.self.heads ≡ [] = sym (ap (λ kept. kept.heads) c.self.view_is)
-    ∙ ap (λ is_open. standing is_open items) closed ∙ nothing in
+    ∙ ap (λ is_open. counted_heads is_open items) closed ∙ nothing in
     let long = length_permutation c.args.self.now.heads c.close.new.self.heads c.close.ensures.kept in
     let same = ap (λ heads. length heads) now in
     (nil_from_length c.args.self.now.heads (omega (arith, long, same)), now)
@@ -54,7 +54,7 @@ returns-clause-taken g c =
     let closed : c.self.inside.is_open ≡ false =
     subst (λ kept. IsFalse kept.is_open) (sym c.self.view_is) c.close.ensures.closed in
     let now : c.close.new.self.heads ≡ items = sym (ap (λ kept. kept.heads) c.self.view_is)
-    ∙ ap (λ is_open. standing is_open items) closed in
+    ∙ ap (λ is_open. counted_heads is_open items) closed in
     record {
       kept = subst (IsPermutation c.args.self.now.heads) (now ∙ first-there g c)
           c.close.ensures.kept;
@@ -74,5 +74,5 @@ returns-clause-values g c =
 -- The only comparisons are those that close the place.
 pub returns-clause-compared : goal.returns-clause-compared
 returns-clause-compared g c =
-    subst (λ kept. kept.comparisons ≤ c.args.self.now.comparisons + closing c.args.self.now)
+    subst (λ kept. kept.comparisons ≤ c.args.self.now.comparisons + closing_bound c.args.self.now)
     (sym c.self.view_is) c.close.ensures.compared

@@ -1,9 +1,9 @@
 use Rattle.std.proofs.Common.{◌+◌, ◌*◌, ◌≤◌, ◌∷◌, drop, length, refl, set, sym, subst, arith, IsPermutation}
 use Rattle.std.proofs.lemmas.List.Elements.{All-cons, All-drop}
 use Rattle.std.proofs.lemmas.List.Sorted.{All-permutation, IsPermutation-refl}
-use Rattle.rsb_many.specs.Heads.{binary_digits, standing, HasValues}
+use Rattle.rsb_many.specs.Heads.{binary_digits, counted_heads, HasValues}
 use Rattle.rsb_many.specs.HeapOrder.{IsHeapButLast}
-use Rattle.rsb_many.proofs.heap.Heads.{filled-heap, filled-kept, pushed-heap, pushed-kept}
+use Rattle.rsb_many.proofs.lemmas.heap.Heads.{filled-heap, filled-kept, pushed-heap, pushed-kept}
 use Rattle.rsb_many.proofs.heads.Heads.push.Given.{Over}
 use Rattle.rsb_many.proofs.heads.Heads.push.Goals as goal
 
@@ -51,7 +51,7 @@ returns-then-self-clause-kept g c =
     let new = c.sift_down.new.self.heads.items in
     subst (λ before. IsPermutation (c.args.head ∷ before.heads) new) c.self.view_is
     (subst (λ is_open. IsPermutation
-    (c.args.head ∷ standing is_open c.self.inside.list.heads.items) new) (sym c.if-self.true)
+    (c.args.head ∷ counted_heads is_open c.self.inside.list.heads.items) new) (sym c.if-self.true)
     (filled g c))
 
 pub returns-then-self-clause-compared : goal.returns-then-self-clause-compared
@@ -100,12 +100,13 @@ pub returns-else-self-clause-kept : goal.returns-else-self-clause-kept
 returns-else-self-clause-kept g c =
     let new = c.sift_up.new.self.heads.items in
     subst (λ before. IsPermutation (c.args.head ∷ before.heads)
-    (standing c.self.inside.is_open new)) c.self.view_is
+    (counted_heads c.self.inside.is_open new)) c.self.view_is
     (rw c.if-self.false (added g c))
 
 pub returns-else-self-clause-compared : goal.returns-else-self-clause-compared
 returns-else-self-clause-compared g c =
     let new = c.sift_up.new.self in
     subst (λ before. new.comparisons.made ≤ before.comparisons
-    + 2 * binary_digits (length (standing c.self.inside.is_open new.heads.items))) c.self.view_is
+    + 2 * binary_digits (length (counted_heads c.self.inside.is_open new.heads.items)))
+    c.self.view_is
     (rw c.if-self.false (omega (arith, c.sift_up.ensures.compared)))

@@ -1,6 +1,6 @@
 use Rattle.std.proofs.Common.{subst, sym, All}
 use Rattle.std.proofs.lemmas.Result.{IfOk-weaker}
-use Rattle.rsb_many.proofs.inputs.HandedIn.{collected-each, collected-run}
+use Rattle.rsb_many.proofs.lemmas.inputs.HandedIn.{collected-each, collected-run}
 use Rattle.rsb_many.specs.KMerge.{MakesKMerge}
 use Rattle.rsb_many.proofs.kmerge.KMerge.new.Goals as goal
 

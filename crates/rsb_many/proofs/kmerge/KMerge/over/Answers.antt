@@ -1,4 +1,4 @@
-use Rattle.rsb_many.proofs.merging.OneAnswer.{begun-made}
+use Rattle.rsb_many.proofs.lemmas.merging.OneAnswer.{begun-made}
 use Rattle.rsb_many.proofs.kmerge.KMerge.over.Goals as goal
 
 -- The first range is drawn from each stream.

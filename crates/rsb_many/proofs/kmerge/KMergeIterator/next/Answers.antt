@@ -1,7 +1,7 @@
 use Rattle.std.proofs.Common.{subst, sym}
 use Rattle.rsb_many.specs.KMerge.{kmerge}
-use Rattle.rsb_many.proofs.merging.OneAnswer.{head-goes, head-known, none-known}
-use Rattle.rsb_streams.proofs.sources.Known.{IsLawful}
+use Rattle.rsb_many.proofs.lemmas.merging.OneAnswer.{head-goes, head-known, none-known}
+use Rattle.rsb_streams.proofs.lemmas.sources.Known.{IsLawful}
 use Rattle.rsb_many.proofs.kmerge.KMergeIterator.next.Given.{Over}
 use Rattle.rsb_many.proofs.kmerge.KMergeIterator.next.Goals as goal
 

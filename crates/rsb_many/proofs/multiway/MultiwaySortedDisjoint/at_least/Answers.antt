@@ -1,4 +1,4 @@
-use Rattle.rsb_many.proofs.inputs.HandedIn.{gave-each}
+use Rattle.rsb_many.proofs.lemmas.inputs.HandedIn.{gave-each}
 use Rattle.rsb_many.specs.MultiwayAtLeast.{multiway_at_least, GivesRunsOfAllAtMost, MakesMultiwayAtLeast}
 use Rattle.rsb_many.specs.MultiwaySweep.{SweepsOver}
 use Rattle.rsb_many.proofs.multiway.MultiwaySortedDisjoint.at_least.Goals as goal

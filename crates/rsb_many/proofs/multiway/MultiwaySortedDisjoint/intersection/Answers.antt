@@ -1,4 +1,4 @@
-use Rattle.rsb_many.proofs.inputs.HandedIn.{gave-each}
+use Rattle.rsb_many.proofs.lemmas.inputs.HandedIn.{gave-each}
 use Rattle.rsb_many.specs.MultiwayIntersection.{multiway_intersection}
 use Rattle.rsb_many.specs.MultiwayResults.{AreComplements, MakesMultiwayIntersection}
 use Rattle.rsb_many.proofs.multiway.MultiwaySortedDisjoint.intersection.Goals as goal

@@ -1,4 +1,4 @@
-use Rattle.rsb_many.proofs.inputs.HandedIn.{gave-each}
+use Rattle.rsb_many.proofs.lemmas.inputs.HandedIn.{gave-each}
 use Rattle.rsb_many.specs.MultiwayResults.{MakesMultiwaySymmetricDifference}
 use Rattle.rsb_many.specs.MultiwaySweep.{SweepsOver}
 use Rattle.rsb_many.specs.MultiwaySymmetricDifference.{multiway_symmetric_difference}

@@ -1,4 +1,4 @@
-use Rattle.rsb_many.proofs.inputs.HandedIn.{gave-each}
+use Rattle.rsb_many.proofs.lemmas.inputs.HandedIn.{gave-each}
 use Rattle.rsb_many.specs.KMerge.{MakesKMerge}
 use Rattle.rsb_many.specs.MultiwayResults.{MakesMultiwayUnion}
 use Rattle.rsb_many.specs.MultiwayUnion.{multiway_union}

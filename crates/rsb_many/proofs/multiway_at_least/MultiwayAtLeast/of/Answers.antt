@@ -1,4 +1,4 @@
-use Rattle.rsb_many.proofs.pieces.AtLeast.{few-runs}
+use Rattle.rsb_many.proofs.lemmas.pieces.AtLeast.{few-runs}
 use Rattle.rsb_many.proofs.multiway_at_least.MultiwayAtLeast.of.Goals as goal
 
 -- The joined pieces are what lies in at least `least` of the streams.

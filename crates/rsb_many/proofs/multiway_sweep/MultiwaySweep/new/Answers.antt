@@ -1,7 +1,7 @@
 use Rattle.std.proofs.Common.{subst, sym, All}
 use Rattle.std.proofs.lemmas.Result.{IfOk-weaker}
-use Rattle.rsb_many.proofs.inputs.HandedIn.{collected-each, collected-run}
-use Rattle.rsb_many.proofs.inputs.Touching.{canonical-touching}
+use Rattle.rsb_many.proofs.lemmas.inputs.HandedIn.{collected-each, collected-run}
+use Rattle.rsb_many.proofs.lemmas.inputs.Touching.{canonical-touching}
 use Rattle.rsb_many.specs.MultiwaySweep.{SweepsOver}
 use Rattle.rsb_many.proofs.multiway_sweep.MultiwaySweep.new.Goals as goal
 

@@ -1,5 +1,5 @@
-use Rattle.rsb_streams.proofs.sources.Known.{IsLawful}
-use Rattle.rsb_many.proofs.events.Built.{sweeps-over}
+use Rattle.rsb_streams.proofs.lemmas.sources.Known.{IsLawful}
+use Rattle.rsb_many.proofs.lemmas.events.Built.{sweeps-over}
 use Rattle.rsb_many.proofs.multiway_sweep.MultiwaySweep.over.Given.{Over}
 use Rattle.rsb_many.proofs.multiway_sweep.MultiwaySweep.over.Goals as goal
 

@@ -1,9 +1,9 @@
 use Rattle.std.proofs.Common.{arith, subst, sym, ◌∙◌}
 use Rattle.rsb_many.specs.Drawn.{Refills, TakesHead}
 use Rattle.rsb_many.specs.MultiwaySweep.{Sweeps}
-use Rattle.rsb_many.proofs.inputs.HeadLeaves.{taken-fewer}
-use Rattle.rsb_many.proofs.events.OneEvent.{end-goes, end-known, none-known, start-goes, start-known}
-use Rattle.rsb_streams.proofs.sources.Known.{IsLawful}
+use Rattle.rsb_many.proofs.lemmas.inputs.HeadLeaves.{taken-fewer}
+use Rattle.rsb_many.proofs.lemmas.events.OneEvent.{end-goes, end-known, none-known, start-goes, start-known}
+use Rattle.rsb_streams.proofs.lemmas.sources.Known.{IsLawful}
 use Rattle.rsb_many.proofs.multiway_sweep.MultiwaySweepIterator.next.Given.{Over}
 use Rattle.rsb_many.proofs.multiway_sweep.MultiwaySweepIterator.next.Goals as goal
 

@@ -1,5 +1,5 @@
 use Rattle.std.proofs.Common.{arith}
-use Rattle.rsb_many.proofs.pieces.Joined.{joined-made, joined-ready, pieces-ready}
+use Rattle.rsb_many.proofs.lemmas.pieces.Joined.{joined-made, joined-ready, pieces-ready}
 use Rattle.rsb_many.proofs.sweep_pieces.SweepPieces.joined.Goals as goal
 
 -- The pieces of a sweep that was just built are ready.

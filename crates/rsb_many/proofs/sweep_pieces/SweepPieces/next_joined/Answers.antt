@@ -1,4 +1,4 @@
-use Rattle.rsb_many.proofs.pieces.Joined.{joined-goes, joined-known}
+use Rattle.rsb_many.proofs.lemmas.pieces.Joined.{joined-goes, joined-known}
 use Rattle.rsb_many.proofs.sweep_pieces.SweepPieces.next_joined.Goals as goal
 
 pub returns-clause-steps : goal.returns-clause-steps

@@ -1,5 +1,5 @@
 use Rattle.std.proofs.Common.{refl, sym, Some, None}
-use Rattle.rsb_many.proofs.pieces.Draw.{draw-ends, draw-last, draw-over, event-can, event-in, piece-goes, piece-known, so_far-more, so_far-nothing}
+use Rattle.rsb_many.proofs.lemmas.pieces.Draw.{draw-ends, draw-last, draw-over, event-can, event-in, piece-goes, piece-known, so_far-more, so_far-nothing}
 use Rattle.rsb_many.proofs.sweep_pieces.SweepPiecesDraw.draw.Goals as goal
 
 -- The stream is done, so nothing is left.

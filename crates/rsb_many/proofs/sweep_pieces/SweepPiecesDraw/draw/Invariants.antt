@@ -1,6 +1,6 @@
 use Rattle.std.specs.Iterator.{size}
 use Rattle.rsb_many.specs.MultiwaySweep.{events_left}
-use Rattle.rsb_many.proofs.pieces.Draw.{SoFar}
+use Rattle.rsb_many.proofs.lemmas.pieces.Draw.{SoFar}
 use Rattle.rsb_many.proofs.sweep_pieces.SweepPiecesDraw.draw.Given as goal
 
 abbrev pub invariant-loop-event : goal.invariant-loop-event

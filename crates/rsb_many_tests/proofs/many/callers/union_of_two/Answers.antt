@@ -2,7 +2,7 @@ use Rattle.std.proofs.Common.{[], ◌∷◌}
 use Rattle.std.proofs.lemmas.Result.{IfOk-weaker}
 use Rattle.std.specs.Prelude.{Ok}
 use Rattle.rsb_integer.specs.Selection.{any_of}
-use Rattle.rsb_many.proofs.calling.Taken.{made-known, more-known, none-known}
+use Rattle.rsb_many.proofs.lemmas.calling.Taken.{made-known, more-known, none-known}
 use Rattle.rsb_many_tests.proofs.many.callers.union_of_two.Goals as goal
 
 -- The result is the union of two known lists.

@@ -1,10 +1,10 @@
 use Rattle.std.specs.Prelude.{length}
 use Rattle.rsb_integer.specs.Selection.{any_of, complement}
-use Rattle.rsb_streams.proofs.calling.Results.{runs_by-within}
+use Rattle.rsb_streams.proofs.lemmas.calling.Results.{runs_by-within}
 use Rattle.rsb_many.specs.Many.{may_give_at, runs_by_all}
 use Rattle.rsb_many.specs.MultiwayResults.{MakesMultiwayUnion}
 use Rattle.rsb_many.specs.MultiwayUnion.{multiway_union}
-use Rattle.rsb_many.proofs.inputs.GivenList.{given-list}
+use Rattle.rsb_many.proofs.lemmas.inputs.GivenList.{given-list}
 use Rattle.rsb_many_tests.proofs.many.nested.none_of.Goals as goal
 
 -- The result is the complement of what the union may give.

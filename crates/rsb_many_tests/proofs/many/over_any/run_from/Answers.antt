@@ -1,6 +1,6 @@
 use Rattle.std.proofs.Common.{ap, ◌∙◌}
 use Rattle.rsb_integer.specs.Rank.{intervals_of}
-use Rattle.range_set_blaze.proofs.elements.GivenRuns.{given-run}
+use Rattle.range_set_blaze.proofs.GivenRuns.{given-run}
 use Rattle.rsb_many_tests.proofs.many.over_any.run_from.Goals as goal
 
 -- Each range that the loop meets is a run of the set.

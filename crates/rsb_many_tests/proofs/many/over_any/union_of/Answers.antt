@@ -1,7 +1,7 @@
 use Rattle.std.proofs.lemmas.Result.{IfOk-weaker}
 use Rattle.rsb_many.specs.MultiwayResults.{MakesMultiwayUnion}
 use Rattle.rsb_many.specs.MultiwayUnion.{multiway_union}
-use Rattle.rsb_many.proofs.calling.StreamLists.{given-streams}
+use Rattle.rsb_many.proofs.lemmas.calling.StreamLists.{given-streams}
 use Rattle.rsb_many_tests.proofs.many.over_any.union_of.Goals as goal
 
 -- The union is built from the streams of the list.

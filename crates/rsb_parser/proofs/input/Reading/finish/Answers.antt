@@ -1,6 +1,6 @@
 use Rattle.std.proofs.Common.{◌≡◌, ◌∙◌, Err, ap, subst, sym}
 use Rattle.rsb_parser.specs.Spelling.{AreCommands, IsFirstBadLine}
-use Rattle.rsb_parser.proofs.reading.Parts.{AreCommands-rest, IsFirstBadLine-bytes, IsFirstBadLine-rest, none_is, taken-bad, taken-lines}
+use Rattle.rsb_parser.proofs.lemmas.reading.Parts.{AreCommands-rest, IsFirstBadLine-bytes, IsFirstBadLine-rest, none_is, taken-bad, taken-lines}
 use Rattle.rsb_parser.proofs.input.Reading.finish.Goals as goal
 
 -- A bad line was found before.

@@ -1,4 +1,4 @@
-use Rattle.rsb_parser.proofs.reading.Parts.{HasLines-nil}
+use Rattle.rsb_parser.proofs.lemmas.reading.Parts.{HasLines-nil}
 use Rattle.rsb_parser.proofs.input.Reading.new.Goals as goal
 
 -- Nothing was read yet.

@@ -1,5 +1,5 @@
 use Rattle.std.proofs.Common.{◌≡◌, length, rules}
-use Rattle.rsb_parser.proofs.reading.Parts.{IsClosed-take-append}
+use Rattle.rsb_parser.proofs.lemmas.reading.Parts.{IsClosed-take-append}
 use Rattle.rsb_parser.proofs.input.Reading.take.Goals as goal
 
 -- The bytes up to a line feed are whole lines.

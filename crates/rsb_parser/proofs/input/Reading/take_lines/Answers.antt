@@ -2,7 +2,7 @@ use Rattle.std.proofs.Common.{◌≡◌, ◌∙◌, Err, ap, drop, length, subst
 use Rattle.std.proofs.lemmas.List.{take-append-drop, take_rest}
 use Rattle.std.specs.Str.Lines as str
 use Rattle.rsb_parser.specs.Spelling.{AreCommands, IsFirstBadLine}
-use Rattle.rsb_parser.proofs.reading.Parts.{HasBadLine-lines, HasLines-lines, lines-taken, taken-lines}
+use Rattle.rsb_parser.proofs.lemmas.reading.Parts.{HasBadLine-lines, HasLines-lines, lines-taken, taken-lines}
 use Rattle.rsb_parser.proofs.input.Reading.take_lines.Goals as goal
 
 -- The lines spell commands.

@@ -1,6 +1,6 @@
 use Rattle.rsb_streams.specs.CallsLaws.{known-sorted}
 use Rattle.rsb_streams.specs.Stream.{HasSortedStarts}
-use Rattle.rsb_streams.proofs.sources.OneCall.{sorted-tail, source-goes}
+use Rattle.rsb_streams.proofs.lemmas.sources.OneCall.{sorted-tail, source-goes}
 use Rattle.rsb_streams.proofs.assume_sorted_starts.AssumeSortedStartsIterator.next.Goals as goal
 
 pub returns-clause-goes : goal.returns-clause-goes

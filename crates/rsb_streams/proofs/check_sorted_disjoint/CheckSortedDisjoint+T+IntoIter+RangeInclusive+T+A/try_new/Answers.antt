@@ -4,7 +4,7 @@ use Rattle.rsb_integer.specs.Runs.{AllEndBelow}
 use Rattle.rsb_streams.specs.OutOfPlace.{IsFirstBad}
 use Rattle.rsb_streams.specs.StreamLaws.{spaced-canonical}
 use Rattle.rsb_streams.specs.Touching.{IsSpacedIn}
-use Rattle.rsb_streams.proofs.sources.Vectors.{vec-calls, vec-source}
+use Rattle.rsb_streams.proofs.lemmas.sources.Vectors.{vec-calls, vec-source}
 use Rattle.rsb_streams.proofs.check_sorted_disjoint.CheckSortedDisjoint+T+IntoIter+RangeInclusive+T+A.try_new.Goals as goal
 
 -- There is a faulty position, so the list is not canonical.

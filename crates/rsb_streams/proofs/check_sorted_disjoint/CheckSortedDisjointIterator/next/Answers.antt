@@ -1,7 +1,7 @@
 use Rattle.rsb_integer.specs.Runs.{IsCanonicalIn}
-use Rattle.rsb_integer.proofs.CanonicalLemmas.{canonical-tail}
+use Rattle.rsb_integer.proofs.lemmas.Canonical.{canonical-tail}
 use Rattle.rsb_streams.specs.CallsLaws.{known-disjoint}
-use Rattle.rsb_streams.proofs.sources.OneCall.{source-goes}
+use Rattle.rsb_streams.proofs.lemmas.sources.OneCall.{source-goes}
 use Rattle.rsb_streams.proofs.check_sorted_disjoint.CheckSortedDisjointIterator.next.Goals as goal
 
 pub returns-clause-goes : goal.returns-clause-goes

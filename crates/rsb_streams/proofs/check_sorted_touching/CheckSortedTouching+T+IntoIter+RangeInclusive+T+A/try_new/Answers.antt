@@ -3,7 +3,7 @@ use Rattle.rsb_integer.specs.Rank.{intervals_of}
 use Rattle.rsb_integer.specs.Runs.{AllEndBelow}
 use Rattle.rsb_streams.specs.OutOfPlace.{IsFirstBad}
 use Rattle.rsb_streams.specs.Touching.{IsTouchingIn}
-use Rattle.rsb_streams.proofs.sources.Vectors.{vec-calls, vec-touching}
+use Rattle.rsb_streams.proofs.lemmas.sources.Vectors.{vec-calls, vec-touching}
 use Rattle.rsb_streams.proofs.check_sorted_touching.CheckSortedTouching+T+IntoIter+RangeInclusive+T+A.try_new.Goals as goal
 
 -- There is a faulty position, so the list is not touching.

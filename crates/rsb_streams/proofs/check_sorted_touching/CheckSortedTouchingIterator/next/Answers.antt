@@ -1,7 +1,7 @@
 use Rattle.rsb_streams.specs.CallsLaws.{known-touching}
 use Rattle.rsb_streams.specs.Touching.{IsTouchingIn}
-use Rattle.rsb_streams.proofs.checking.Spaced.{spaced-tail}
-use Rattle.rsb_streams.proofs.sources.OneCall.{source-goes}
+use Rattle.rsb_streams.proofs.lemmas.checking.Spaced.{spaced-tail}
+use Rattle.rsb_streams.proofs.lemmas.sources.OneCall.{source-goes}
 use Rattle.rsb_streams.proofs.check_sorted_touching.CheckSortedTouchingIterator.next.Goals as goal
 
 pub returns-clause-goes : goal.returns-clause-goes

@@ -1,7 +1,7 @@
 use Rattle.std.proofs.Common.{◌<◌, ◌≤◌, subst, sym}
-use Rattle.rsb_streams.proofs.checking.Comparisons.{IsRanked, less-rank, not_less-rank}
-use Rattle.rsb_streams.proofs.filling.OneAnswer.{gap-answers, gap-goes, last-gap, last-goes, run-answers, run-goes, values}
-use Rattle.rsb_streams.proofs.sources.Known.{IsLawful}
+use Rattle.rsb_streams.proofs.lemmas.checking.Comparisons.{IsRanked, less-rank, not_less-rank}
+use Rattle.rsb_streams.proofs.lemmas.filling.OneAnswer.{gap-answers, gap-goes, last-gap, last-goes, run-answers, run-goes, values}
+use Rattle.rsb_streams.proofs.lemmas.sources.Known.{IsLawful}
 use Rattle.rsb_streams.proofs.fill_gaps_iter.FillGapsIterIterator.next.Given.{Over}
 use Rattle.rsb_streams.proofs.fill_gaps_iter.FillGapsIterIterator.next.Goals as goal
 

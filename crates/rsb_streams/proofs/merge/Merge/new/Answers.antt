@@ -1,5 +1,5 @@
-use Rattle.rsb_streams.proofs.lookahead.Ahead.{merges-undrawn}
-use Rattle.rsb_streams.proofs.sources.Known.{fresh-may, fresh-ready}
+use Rattle.rsb_streams.proofs.lemmas.lookahead.Ahead.{merges-undrawn}
+use Rattle.rsb_streams.proofs.lemmas.sources.Known.{fresh-may, fresh-ready}
 use Rattle.rsb_streams.proofs.merge.Merge.new.Goals as goal
 
 -- Both streams are ready.

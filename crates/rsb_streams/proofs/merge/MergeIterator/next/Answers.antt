@@ -1,8 +1,8 @@
 use Rattle.std.proofs.Common.{ap, ◌<◌, ◌≤◌, arith}
 use Rattle.std.specs.Range.{range_inclusive_start}
-use Rattle.rsb_streams.proofs.checking.Comparisons.{IsRanked, less-rank, not_less-rank}
-use Rattle.rsb_streams.proofs.merging.Answers.{only-left, only-right, start-values, left-answers, left-goes, right-answers, right-goes}
-use Rattle.rsb_streams.proofs.sources.Known.{IsLawful}
+use Rattle.rsb_streams.proofs.lemmas.checking.Comparisons.{IsRanked, less-rank, not_less-rank}
+use Rattle.rsb_streams.proofs.lemmas.merging.Answers.{only-left, only-right, start-values, left-answers, left-goes, right-answers, right-goes}
+use Rattle.rsb_streams.proofs.lemmas.sources.Known.{IsLawful}
 use Rattle.rsb_streams.proofs.merge.MergeIterator.next.Given.{Over}
 use Rattle.rsb_streams.proofs.merge.MergeIterator.next.Goals as goal
 

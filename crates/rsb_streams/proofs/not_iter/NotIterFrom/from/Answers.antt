@@ -1,5 +1,5 @@
 use Rattle.std.proofs.Common.{refl}
-use Rattle.rsb_streams.proofs.gaps.Lists.{fresh-gaps, fresh-ready}
+use Rattle.rsb_streams.proofs.lemmas.gaps.Lists.{fresh-gaps, fresh-ready}
 use Rattle.rsb_streams.proofs.not_iter.NotIterFrom.from.Goals as goal
 
 pub returns : goal.returns

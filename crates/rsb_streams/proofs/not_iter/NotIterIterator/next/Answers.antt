@@ -1,7 +1,7 @@
 use Rattle.std.proofs.Common.{arith}
-use Rattle.rsb_streams.proofs.checking.Comparisons.{IsRanked}
-use Rattle.rsb_streams.proofs.gaps.Loop.{gap-answers, gap-goes, gap-less, gap-none, last-gap, last-goes, rests, so-next}
-use Rattle.rsb_streams.proofs.sources.Known.{IsLawful}
+use Rattle.rsb_streams.proofs.lemmas.checking.Comparisons.{IsRanked}
+use Rattle.rsb_streams.proofs.lemmas.gaps.Loop.{gap-answers, gap-goes, gap-less, gap-none, last-gap, last-goes, rests, so-next}
+use Rattle.rsb_streams.proofs.lemmas.sources.Known.{IsLawful}
 use Rattle.rsb_streams.proofs.not_iter.NotIterIterator.next.Given.{Over}
 use Rattle.rsb_streams.proofs.not_iter.NotIterIterator.next.Goals as goal
 

@@ -1,5 +1,5 @@
 use Rattle.std.specs.Iterator.{size}
-use Rattle.rsb_streams.proofs.gaps.Loop.{SoFar}
+use Rattle.rsb_streams.proofs.lemmas.gaps.Loop.{SoFar}
 use Rattle.rsb_streams.proofs.not_iter.NotIterIterator.next.Given as goal
 
 abbrev pub invariant-loop-self : goal.invariant-loop-self

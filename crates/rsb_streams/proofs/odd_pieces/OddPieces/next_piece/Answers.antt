@@ -2,13 +2,13 @@ use Rattle.std.proofs.Common.{◌<◌, ap, arith, refl}
 use Rattle.std.specs.Iterator.{size}
 use Rattle.std.specs.Prelude.{Some, None}
 use Rattle.rsb_integer.specs.Room.{fits_memory}
-use Rattle.rsb_streams.specs.OddPieces.{first_end, holding}
-use Rattle.rsb_streams.proofs.checking.Comparisons.{IsRanked}
-use Rattle.rsb_streams.proofs.odd.Drawn.{drawn-none}
-use Rattle.rsb_streams.proofs.odd.Ends.{last-answers, last-goes, rests}
-use Rattle.rsb_streams.proofs.odd.States.{passed-by, popped-end, popped-left, pushed-none, pushed-some, removed-first}
-use Rattle.rsb_streams.proofs.odd.OneMore.{apart-answers, apart-goes, both-values, drawn-begins, drawn-passed, gap-answers, gap-goes, next-above, so-begins, so-passed}
-use Rattle.rsb_streams.proofs.sources.Known.{IsLawful}
+use Rattle.rsb_streams.specs.OddPieces.{first_end, with_pending}
+use Rattle.rsb_streams.proofs.lemmas.checking.Comparisons.{IsRanked}
+use Rattle.rsb_streams.proofs.lemmas.odd.Drawn.{drawn-none}
+use Rattle.rsb_streams.proofs.lemmas.odd.Ends.{last-answers, last-goes, rests}
+use Rattle.rsb_streams.proofs.lemmas.odd.States.{passed-by, popped-end, popped-left, pushed-none, pushed-some, removed-first}
+use Rattle.rsb_streams.proofs.lemmas.odd.OneMore.{apart-answers, apart-goes, both-values, drawn-begins, drawn-passed, gap-answers, gap-goes, next-above, so-begins, so-passed}
+use Rattle.rsb_streams.proofs.lemmas.sources.Known.{IsLawful}
 use Rattle.rsb_streams.proofs.odd_pieces.OddPieces.next_piece.Given.{Over}
 use Rattle.rsb_streams.proofs.odd_pieces.OddPieces.next_piece.Goals as goal
 use Rattle.rsb_streams.proofs.odd_pieces.OddPieces.next_piece.Goals.{In-Some}
@@ -30,7 +30,7 @@ loop-range-init g c = record {
     same = λ pieces at. at;
     nearer = omega arith;
   };
-  drew = drawn-none g.T.Integer g.I.Draw (holding c.args.self.now c.args.ends.now.items)
+  drew = drawn-none g.T.Integer g.I.Draw (with_pending c.args.self.now c.args.ends.now.items)
       c.requires.undone;
 }
 
@@ -55,14 +55,14 @@ loop-range-preserved-in_default-pending g c =
     record {
       one = rw ends refl;
       so = rw ends (so-begins g.T.Integer g.I.Draw (laws g)
-          (ranked g) (holding c.args.self.now c.args.ends.now.items)
-          (holding c.loop-range.self c.loop-range.ends.items)
+          (ranked g) (with_pending c.args.self.now c.args.ends.now.items)
+          (with_pending c.loop-range.self c.loop-range.ends.items)
           c.draw.new.self c.into_inner-next.result.0 c.into_inner-next.result.1 c.in-Some.range
           c.loop-range.invariant.so c.in-Some.ensures.steps c.in-Some.ensures.goes
           c.into_inner-next.ensures.start c.into_inner-next.ensures.end c.in_default-pending.ensures);
       drew = rw ends (drawn-begins g.T.Integer g.I.Draw (laws g)
-          (ranked g) (holding c.args.self.now c.args.ends.now.items)
-          (holding c.loop-range.self c.loop-range.ends.items)
+          (ranked g) (with_pending c.args.self.now c.args.ends.now.items)
+          (with_pending c.loop-range.self c.loop-range.ends.items)
           c.draw.new.self c.into_inner-next.result.0 c.into_inner-next.result.1 c.in-Some.range
           c.loop-range.invariant.so c.in-Some.ensures.steps c.in-Some.ensures.goes
           c.into_inner-next.ensures.start c.into_inner-next.ensures.end c.loop-range.invariant.drew
@@ -77,8 +77,8 @@ returns-then-lt-clause-steps g c =
     c.into_inner-next.result.1 c.in-Some-pending.ensures c.push.ensures.items
     c.remove.ensures.items in
     rw left (apart-answers g.T.Integer g.I.Draw (laws g)
-    (ranked g) (holding c.args.self.now c.args.ends.now.items)
-    (holding c.loop-range.self c.loop-range.ends.items)
+    (ranked g) (with_pending c.args.self.now c.args.ends.now.items)
+    (with_pending c.loop-range.self c.loop-range.ends.items)
     c.draw.new.self c.into_inner-next.result.0 c.into_inner-next.result.1 c.in-Some.range
     c.loop-range.invariant.so c.in-Some.ensures.steps c.in-Some.ensures.goes
     c.into_inner-next.ensures.start c.into_inner-next.ensures.end c.in-Some-pending.end
@@ -92,8 +92,8 @@ returns-then-lt-clause-goes g c =
     c.into_inner-next.result.1 c.in-Some-pending.ensures c.push.ensures.items
     c.remove.ensures.items in
     rw left (apart-goes g.T.Integer g.I.Draw (laws g)
-    (ranked g) (holding c.args.self.now c.args.ends.now.items)
-    (holding c.loop-range.self c.loop-range.ends.items)
+    (ranked g) (with_pending c.args.self.now c.args.ends.now.items)
+    (with_pending c.loop-range.self c.loop-range.ends.items)
     c.draw.new.self c.into_inner-next.result.0 c.into_inner-next.result.1 c.in-Some.range
     c.loop-range.invariant.so c.in-Some.ensures.steps c.in-Some.ensures.goes
     c.into_inner-next.ensures.start c.into_inner-next.ensures.end c.in-Some-pending.end
@@ -103,8 +103,8 @@ returns-then-lt-clause-goes g c =
 pub pass_lesser-requires : goal.pass_lesser-requires
 pass_lesser-requires g c =
     let values = both-values g.T.Integer g.I.Draw (laws g)
-    (ranked g) (holding c.args.self.now c.args.ends.now.items)
-    (holding c.loop-range.self c.loop-range.ends.items)
+    (ranked g) (with_pending c.args.self.now c.args.ends.now.items)
+    (with_pending c.loop-range.self c.loop-range.ends.items)
     c.draw.new.self c.into_inner-next.result.0 c.into_inner-next.result.1 c.in-Some.range
     c.loop-range.invariant.so c.in-Some.ensures.steps c.in-Some.ensures.goes
     c.into_inner-next.ensures.start c.into_inner-next.ensures.end c.in-Some-pending.end
@@ -125,8 +125,8 @@ pass_lesser-requires g c =
 pub sub_one-requires : goal.sub_one-requires
 sub_one-requires g c =
     next-above g.T.Integer g.I.Draw (laws g)
-    (ranked g) (holding c.args.self.now c.args.ends.now.items)
-    (holding c.loop-range.self c.loop-range.ends.items)
+    (ranked g) (with_pending c.args.self.now c.args.ends.now.items)
+    (with_pending c.loop-range.self c.loop-range.ends.items)
     c.draw.new.self c.into_inner-next.result.0 c.into_inner-next.result.1 c.in-Some.range
     c.loop-range.invariant.so c.in-Some.ensures.steps c.in-Some.ensures.goes
     c.into_inner-next.ensures.start c.into_inner-next.ensures.end c.in-Some-pending.end
@@ -139,8 +139,8 @@ returns-then-lt-2-clause-steps g c =
     (first_end c.pass_lesser.new.ends.items) c.loop-range.invariant.so.undone
     c.pass_lesser.ensures.passed in
     gap-answers g.T.Integer g.I.Draw (laws g)
-    (ranked g) (holding c.args.self.now c.args.ends.now.items)
-    (holding c.loop-range.self c.loop-range.ends.items)
+    (ranked g) (with_pending c.args.self.now c.args.ends.now.items)
+    (with_pending c.loop-range.self c.loop-range.ends.items)
     c.draw.new.self c.into_inner-next.result.0 c.into_inner-next.result.1 c.in-Some.range
     c.loop-range.invariant.so c.in-Some.ensures.steps c.in-Some.ensures.goes
     c.into_inner-next.ensures.start c.into_inner-next.ensures.end c.in-Some-pending.end
@@ -156,8 +156,8 @@ returns-then-lt-2-clause-goes g c =
     (first_end c.pass_lesser.new.ends.items) c.loop-range.invariant.so.undone
     c.pass_lesser.ensures.passed in
     gap-goes g.T.Integer g.I.Draw (laws g)
-    (ranked g) (holding c.args.self.now c.args.ends.now.items)
-    (holding c.loop-range.self c.loop-range.ends.items)
+    (ranked g) (with_pending c.args.self.now c.args.ends.now.items)
+    (with_pending c.loop-range.self c.loop-range.ends.items)
     c.draw.new.self c.into_inner-next.result.0 c.into_inner-next.result.1 c.in-Some.range
     c.loop-range.invariant.so c.in-Some.ensures.steps c.in-Some.ensures.goes
     c.into_inner-next.ensures.start c.into_inner-next.ensures.end c.in-Some-pending.end
@@ -173,15 +173,15 @@ loop-range-preserved g c =
     record {
       one = c.pass_lesser.ensures.one;
       so = so-passed g.T.Integer g.I.Draw (laws g)
-          (ranked g) (holding c.args.self.now c.args.ends.now.items)
-          (holding c.loop-range.self c.loop-range.ends.items)
+          (ranked g) (with_pending c.args.self.now c.args.ends.now.items)
+          (with_pending c.loop-range.self c.loop-range.ends.items)
           c.draw.new.self c.into_inner-next.result.0 c.into_inner-next.result.1 c.in-Some.range
           c.loop-range.invariant.so c.in-Some.ensures.steps c.in-Some.ensures.goes
           c.into_inner-next.ensures.start c.into_inner-next.ensures.end c.in-Some-pending.end
           c.in-Some-pending.ensures c.if-lt.ensures _ passed c.if-lt-2.ensures;
       drew = drawn-passed g.T.Integer g.I.Draw (laws g)
-          (ranked g) (holding c.args.self.now c.args.ends.now.items)
-          (holding c.loop-range.self c.loop-range.ends.items)
+          (ranked g) (with_pending c.args.self.now c.args.ends.now.items)
+          (with_pending c.loop-range.self c.loop-range.ends.items)
           c.draw.new.self c.into_inner-next.result.0 c.into_inner-next.result.1 c.in-Some.range
           c.loop-range.invariant.so c.in-Some.ensures.steps c.in-Some.ensures.goes
           c.into_inner-next.ensures.start c.into_inner-next.ensures.end c.in-Some-pending.end
@@ -195,8 +195,8 @@ returns-in_err-end-clause-steps g c =
     let none = popped-end c.loop-range.ends.items c.loop-range.invariant.one c.pop.result None
     c.pop.ensures.value c.in_err-end.ensures in
     rw c.from_residual.ensures (rests g.T.Integer g.I.Draw (laws g)
-    (holding c.args.self.now c.args.ends.now.items)
-    (holding c.loop-range.self c.loop-range.ends.items)
+    (with_pending c.args.self.now c.args.ends.now.items)
+    (with_pending c.loop-range.self c.loop-range.ends.items)
     c.draw.new.self c.loop-range.invariant.so c.loop-range.invariant.drew
     c.in_default.ensures.steps none (first_end c.pop.new.self.items)
     (ap first_end (popped-left c.loop-range.ends.items c.loop-range.invariant.one
@@ -227,8 +227,8 @@ returns-clause-steps g c =
     let last = popped-end c.loop-range.ends.items c.loop-range.invariant.one c.pop.result
     (Some c.in_ok-end.end) c.pop.ensures.value c.in_ok-end.ensures in
     last-answers g.T.Integer g.I.Draw (laws g)
-    (holding c.args.self.now c.args.ends.now.items)
-    (holding c.loop-range.self c.loop-range.ends.items)
+    (with_pending c.args.self.now c.args.ends.now.items)
+    (with_pending c.loop-range.self c.loop-range.ends.items)
     c.draw.new.self c.loop-range.invariant.so c.loop-range.invariant.drew
     c.in_default.ensures.steps c.in_ok-end.end c.new-2.result last
     c.new-2.ensures.exhausted c.new-2.ensures.start c.new-2.ensures.end
@@ -241,7 +241,7 @@ returns-clause-goes g c =
     let last = popped-end c.loop-range.ends.items c.loop-range.invariant.one c.pop.result
     (Some c.in_ok-end.end) c.pop.ensures.value c.in_ok-end.ensures in
     last-goes g.T.Integer g.I.Draw
-    (holding c.args.self.now c.args.ends.now.items)
-    (holding c.loop-range.self c.loop-range.ends.items)
+    (with_pending c.args.self.now c.args.ends.now.items)
+    (with_pending c.loop-range.self c.loop-range.ends.items)
     c.draw.new.self c.loop-range.invariant.so c.in_ok-end.end c.new-2.result last
     (first_end c.pop.new.self.items)

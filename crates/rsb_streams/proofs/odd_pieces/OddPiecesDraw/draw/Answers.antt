@@ -1,8 +1,8 @@
 use Rattle.std.proofs.Common.{ap, refl, sym, subst, ◌∙◌}
 use Rattle.rsb_integer.specs.Room.{fits_memory}
 use Rattle.rsb_streams.specs.OddPieces.{ends_in, first_end, HasOneEnd}
-use Rattle.rsb_streams.proofs.odd.Drawn.{takes-nothing}
-use Rattle.rsb_streams.proofs.odd.States.{first_end-ends_in, one-end}
+use Rattle.rsb_streams.proofs.lemmas.odd.Drawn.{takes-nothing}
+use Rattle.rsb_streams.proofs.lemmas.odd.States.{first_end-ends_in, one-end}
 use Rattle.rsb_streams.proofs.odd_pieces.OddPiecesDraw.draw.Goals as goal
 
 -- All pieces were returned.

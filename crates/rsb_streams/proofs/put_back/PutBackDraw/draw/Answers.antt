@@ -1,6 +1,6 @@
 use Rattle.std.proofs.Common.{◌≡◌, refl, rules}
 use Rattle.std.specs.Prelude.{Some, None, is_none}
-use Rattle.rsb_streams.proofs.merging.PutBack.{drawn-goes, held-goes, told}
+use Rattle.rsb_streams.proofs.lemmas.merging.PutBack.{drawn-goes, held-goes, told}
 use Rattle.rsb_streams.proofs.put_back.PutBackDraw.draw.Goals as goal
 
 -- A range was held.

@@ -2,8 +2,8 @@ use Rattle.std.proofs.Common.{◌<◌, sym, ◌∙◌, subst}
 use Rattle.std.proofs.lemmas.List.Elements.{All-nil}
 use Rattle.rsb_integer.specs.Rank.{interval_of}
 use Rattle.rsb_integer.specs.Runs.{Interval}
-use Rattle.rsb_streams.proofs.checking.Fresh.{none-if_empty, one-canonical, one-if_some}
-use Rattle.rsb_streams.proofs.checking.Comparisons.{IsRanked, empty-ranks, ends-below, some-ranks}
+use Rattle.rsb_streams.proofs.lemmas.checking.Fresh.{none-if_empty, one-canonical, one-if_some}
+use Rattle.rsb_streams.proofs.lemmas.checking.Comparisons.{IsRanked, empty-ranks, ends-below, some-ranks}
 use Rattle.rsb_streams.proofs.range_once.RangeOnceFromRangeInclusive.from.Given.{Over}
 use Rattle.rsb_streams.proofs.range_once.RangeOnceFromRangeInclusive.from.Goals as goal
 

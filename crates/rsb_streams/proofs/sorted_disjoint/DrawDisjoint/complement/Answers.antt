@@ -1,4 +1,4 @@
-use Rattle.rsb_streams.proofs.calling.RunCounts.{run_count-complement}
+use Rattle.rsb_streams.proofs.lemmas.calling.RunCounts.{run_count-complement}
 use Rattle.rsb_streams.proofs.sorted_disjoint.DrawDisjoint.complement.Goals as goal
 
 -- Each gap ends before a run or after the last one, so there is at most one gap more.

@@ -1,7 +1,7 @@
-use Rattle.rsb_streams.proofs.checking.Comparisons.{IsRanked, other-ranks, same-ranks}
-use Rattle.rsb_streams.proofs.questions.Equality.{left-ends, ranges-differ, right-ends, same-more}
-use Rattle.rsb_streams.proofs.questions.FirstItems.{first-range}
-use Rattle.rsb_streams.proofs.sources.Known.{IsLawful}
+use Rattle.rsb_streams.proofs.lemmas.checking.Comparisons.{IsRanked, other-ranks, same-ranks}
+use Rattle.rsb_streams.proofs.lemmas.questions.Equality.{left-ends, ranges-differ, right-ends, same-more}
+use Rattle.rsb_streams.proofs.lemmas.questions.FirstItems.{first-range}
+use Rattle.rsb_streams.proofs.lemmas.sources.Known.{IsLawful}
 use Rattle.rsb_streams.proofs.sorted_disjoint.DrawDisjoint.equal.Given.{Over}
 use Rattle.rsb_streams.proofs.sorted_disjoint.DrawDisjoint.equal.Goals as goal
 

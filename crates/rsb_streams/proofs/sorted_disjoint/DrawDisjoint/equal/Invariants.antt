@@ -1,5 +1,5 @@
 use Rattle.std.specs.Iterator.{size}
-use Rattle.rsb_streams.proofs.questions.Equality.{SameSoFar}
+use Rattle.rsb_streams.proofs.lemmas.questions.Equality.{SameSoFar}
 use Rattle.rsb_streams.proofs.sorted_disjoint.DrawDisjoint.equal.Given as goal
 
 abbrev pub invariant-loop-range : goal.invariant-loop-range

@@ -1,4 +1,4 @@
-use Rattle.rsb_streams.proofs.filling.OneAnswer.{fresh-can, fresh-filled}
+use Rattle.rsb_streams.proofs.lemmas.filling.OneAnswer.{fresh-can, fresh-filled}
 use Rattle.rsb_streams.proofs.sorted_disjoint.DrawDisjoint.fill_gaps.Goals as goal
 
 pub returns-clause-ready : goal.returns-clause-ready

@@ -1,4 +1,4 @@
-use Rattle.rsb_streams.proofs.calling.RunCounts.{run_count-intersection}
+use Rattle.rsb_streams.proofs.lemmas.calling.RunCounts.{run_count-intersection}
 use Rattle.rsb_streams.proofs.sorted_disjoint.DrawDisjoint.intersection.Goals as goal
 
 -- If both streams have runs, the intersection has fewer than both together.

@@ -1,5 +1,5 @@
 use Rattle.rsb_integer.specs.Selection.{intersection, AreDisjoint}
-use Rattle.rsb_streams.proofs.questions.Tests.{intersection-tells, nothing-tells}
+use Rattle.rsb_streams.proofs.lemmas.questions.Tests.{intersection-tells, nothing-tells}
 use Rattle.rsb_streams.proofs.sorted_disjoint.DrawDisjoint.is_disjoint.Goals as goal
 
 pub returns : goal.returns

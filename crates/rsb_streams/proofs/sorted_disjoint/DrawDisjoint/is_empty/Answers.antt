@@ -1,5 +1,5 @@
-use Rattle.rsb_streams.proofs.questions.FirstItems.{tells-nothing}
-use Rattle.rsb_streams.proofs.sources.Known.{IsLawful}
+use Rattle.rsb_streams.proofs.lemmas.questions.FirstItems.{tells-nothing}
+use Rattle.rsb_streams.proofs.lemmas.sources.Known.{IsLawful}
 use Rattle.rsb_streams.proofs.sorted_disjoint.DrawDisjoint.is_empty.Given.{Over}
 use Rattle.rsb_streams.proofs.sorted_disjoint.DrawDisjoint.is_empty.Goals as goal
 

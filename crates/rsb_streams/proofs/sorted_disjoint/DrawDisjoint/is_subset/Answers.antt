@@ -1,5 +1,5 @@
 use Rattle.rsb_integer.specs.Selection.{difference, IsSubset}
-use Rattle.rsb_streams.proofs.questions.Tests.{difference-tells, nothing-tells}
+use Rattle.rsb_streams.proofs.lemmas.questions.Tests.{difference-tells, nothing-tells}
 use Rattle.rsb_streams.proofs.sorted_disjoint.DrawDisjoint.is_subset.Goals as goal
 
 pub returns : goal.returns

@@ -4,9 +4,9 @@ use Rattle.std.specs.Prelude.{IsTrue}
 use Rattle.rsb_integer.specs.Rank.{interval_of}
 use Rattle.rsb_integer.specs.Runs.{members}
 use Rattle.rsb_integer.specs.Selection.{IsUniversal}
-use Rattle.rsb_streams.proofs.checking.Comparisons.{IsRanked, at_most-by, less-rank, not_less-rank}
-use Rattle.rsb_streams.proofs.questions.FirstItems.{first-range, first-tells, first-whole, late-lacks, none-lacks, same-test}
-use Rattle.rsb_streams.proofs.sources.Known.{IsLawful, range-start, range-end}
+use Rattle.rsb_streams.proofs.lemmas.checking.Comparisons.{IsRanked, at_most-by, less-rank, not_less-rank}
+use Rattle.rsb_streams.proofs.lemmas.questions.FirstItems.{first-range, first-tells, first-whole, late-lacks, none-lacks, same-test}
+use Rattle.rsb_streams.proofs.lemmas.sources.Known.{IsLawful, range-start, range-end}
 use Rattle.rsb_streams.proofs.sorted_disjoint.DrawDisjoint.is_universal.Given.{Over}
 use Rattle.rsb_streams.proofs.sorted_disjoint.DrawDisjoint.is_universal.Goals as goal
 

@@ -1,7 +1,7 @@
 use Rattle.std.proofs.Common.{arith}
 use Rattle.std.specs.Prelude.{Some, None}
 use Rattle.rsb_integer.specs.Rank.{interval_of}
-use Rattle.rsb_streams.proofs.questions.Counting.{counted-all, counted-more, counted-ordered, counted-within}
+use Rattle.rsb_streams.proofs.lemmas.questions.Counting.{counted-all, counted-more, counted-ordered, counted-within}
 use Rattle.rsb_streams.proofs.sorted_disjoint.DrawDisjoint.members_len.Goals as goal
 
 -- The range is in order.

@@ -1,5 +1,5 @@
 use Rattle.std.specs.Iterator.{IsFinite, size}
-use Rattle.rsb_streams.proofs.questions.Counting.{CountedSoFar}
+use Rattle.rsb_streams.proofs.lemmas.questions.Counting.{CountedSoFar}
 use Rattle.rsb_streams.proofs.sorted_disjoint.DrawDisjoint.members_len.Given as goal
 
 abbrev pub invariant-loop-range : goal.invariant-loop-range

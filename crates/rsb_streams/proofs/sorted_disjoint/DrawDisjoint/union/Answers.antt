@@ -1,5 +1,5 @@
 use Rattle.std.proofs.Common.{◌||◌, refl}
-use Rattle.rsb_streams.proofs.calling.RunCounts.{run_count-of_one}
+use Rattle.rsb_streams.proofs.lemmas.calling.RunCounts.{run_count-of_one}
 use Rattle.rsb_streams.proofs.sorted_disjoint.DrawDisjoint.union.Goals as goal
 
 -- A rank that is in neither stream is not in the union.

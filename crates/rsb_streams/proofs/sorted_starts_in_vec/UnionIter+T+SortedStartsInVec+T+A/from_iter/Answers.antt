@@ -3,9 +3,9 @@ use Rattle.std.proofs.lemmas.Fn.{always_returns_same}
 use Rattle.std.specs.Range.{range_inclusive_start}
 use Rattle.rsb_integer.specs.Rank.{intervals_of}
 use Rattle.rsb_streams.specs.Stream.{HasSortedStarts}
-use Rattle.rsb_streams.proofs.sorting.Collected.{collects-end, collects-sorted, gathered, runs-sorted}
-use Rattle.rsb_streams.proofs.sorting.Sorted.{IsInOrder, StartsAscend}
-use Rattle.rsb_streams.proofs.sources.Vectors.{vec-calls, vec-sorted}
+use Rattle.rsb_streams.proofs.lemmas.sorting.Collected.{collects-end, collects-sorted, gathered, runs-sorted}
+use Rattle.rsb_streams.proofs.lemmas.sorting.Sorted.{IsInOrder, StartsAscend}
+use Rattle.rsb_streams.proofs.lemmas.sources.Vectors.{vec-calls, vec-sorted}
 use Rattle.rsb_streams.proofs.sorted_starts_in_vec.UnionIter+T+SortedStartsInVec+T+A.from_iter.Given.{Over}
 use Rattle.rsb_streams.proofs.sorted_starts_in_vec.UnionIter+T+SortedStartsInVec+T+A.from_iter.Goals as goal
 

@@ -4,9 +4,9 @@ use Rattle.rsb_streams.specs.MergeLaws.{merge-sorted}
 use Rattle.rsb_streams.specs.OddPieces.{odd_pieces}
 use Rattle.rsb_streams.specs.OddPiecesLaws.{odd_pieces-sorted}
 use Rattle.rsb_streams.specs.Stream.{◌⊆◌, merges}
-use Rattle.rsb_streams.proofs.odd.Ends.{fresh-going, fresh-pieces}
-use Rattle.rsb_streams.proofs.sources.Known.{fresh-may, fresh-ready}
-use Rattle.rsb_streams.proofs.odd.SymmetricDifference.{merges-twofold, symmetric-of_merge}
+use Rattle.rsb_streams.proofs.lemmas.odd.Ends.{fresh-going, fresh-pieces}
+use Rattle.rsb_streams.proofs.lemmas.sources.Known.{fresh-may, fresh-ready}
+use Rattle.rsb_streams.proofs.lemmas.odd.SymmetricDifference.{merges-twofold, symmetric-of_merge}
 use Rattle.rsb_streams.proofs.sym_diff_iter.SymDiffIterFromTuple2.from.Goals as goal
 
 -- The symmetric difference is the union of the pieces of the merge of the two streams.

@@ -1,4 +1,4 @@
-use Rattle.rsb_streams.proofs.sources.Known.{fresh-may, fresh-ready}
+use Rattle.rsb_streams.proofs.lemmas.sources.Known.{fresh-may, fresh-ready}
 use Rattle.rsb_streams.proofs.union_iter.UnionIter.new.Goals as goal
 
 pub returns-clause-ready : goal.returns-clause-ready

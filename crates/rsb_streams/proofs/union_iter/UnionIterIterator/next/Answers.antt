@@ -1,9 +1,9 @@
 use Rattle.std.proofs.Common.{ap, ◌∙◌, ◌+◌, ◌<◌, max, refl, arith}
 use Rattle.std.specs.Ordering.{ord_max}
 use Rattle.std.specs.Range.{range_inclusive_start, range_inclusive_end}
-use Rattle.rsb_streams.proofs.checking.Comparisons.{IsRanked, less-rank, not_less-rank, max-rank, next-value}
-use Rattle.rsb_streams.proofs.sources.Known.{IsLawful}
-use Rattle.rsb_streams.proofs.joining.Loop.{rests, begun, next-values, more, answer-last, answer-ahead, ahead-goes}
+use Rattle.rsb_streams.proofs.lemmas.checking.Comparisons.{IsRanked, less-rank, not_less-rank, max-rank, next-value}
+use Rattle.rsb_streams.proofs.lemmas.sources.Known.{IsLawful}
+use Rattle.rsb_streams.proofs.lemmas.joining.Loop.{rests, begun, next-values, more, answer-last, answer-ahead, ahead-goes}
 use Rattle.rsb_streams.proofs.union_iter.UnionIterIterator.next.Given.{Over}
 use Rattle.rsb_streams.proofs.union_iter.UnionIterIterator.next.Goals as goal
 use Rattle.rsb_streams.proofs.union_iter.UnionIterIterator.next.Goals.{in-Some-checked_add_one+else-lt, in_default-checked_add_one}

@@ -1,6 +1,6 @@
 use Rattle.std.specs.Iterator.{size}
 use Rattle.rsb_streams.specs.PutBack.{put_back}
-use Rattle.rsb_streams.proofs.joining.Loop.{SoFar}
+use Rattle.rsb_streams.proofs.lemmas.joining.Loop.{SoFar}
 use Rattle.rsb_streams.proofs.union_iter.UnionIterIterator.next.Given as goal
 
 abbrev pub invariant-loop-range : goal.invariant-loop-range

@@ -1,8 +1,8 @@
 use Rattle.rsb_streams.specs.Merge.{merge}
 use Rattle.rsb_streams.specs.MergeLaws.{merge-sorted}
-use Rattle.rsb_streams.proofs.lookahead.Ahead.{unites-undrawn}
-use Rattle.rsb_streams.proofs.calling.Operations.{union-of_merge}
-use Rattle.rsb_streams.proofs.sources.Known.{fresh-may, fresh-ready}
+use Rattle.rsb_streams.proofs.lemmas.lookahead.Ahead.{unites-undrawn}
+use Rattle.rsb_streams.proofs.lemmas.calling.Operations.{union-of_merge}
+use Rattle.rsb_streams.proofs.lemmas.sources.Known.{fresh-may, fresh-ready}
 use Rattle.rsb_streams.proofs.union_iter.UnionIterMergeFromTuple2.from.Goals as goal
 
 -- The union of two streams is the union of their merge.

@@ -1,4 +1,4 @@
-use Rattle.rsb_streams.proofs.unsorted.Drained.{gives-spans}
+use Rattle.rsb_streams.proofs.lemmas.unsorted.Drained.{gives-spans}
 use Rattle.rsb_streams.proofs.unsorted_disjoint.UnsortedDisjoint.new.Goals as goal
 
 pub returns-clause-gives : goal.returns-clause-gives

@@ -2,9 +2,9 @@ use Rattle.std.proofs.Common.{◌<◌, true, false, sym, subst, inl, inr}
 use Rattle.std.specs.Prelude.{IfSome}
 use Rattle.std.specs.Range.{range_inclusive_start}
 use Rattle.rsb_streams.specs.UnsortedDisjoint.{unsorted_disjoint, IsProper}
-use Rattle.rsb_streams.proofs.unsorted.Apart.{apart-told, empty-told, is_after, joined-first, joined-last, joined-proper, meet-told, proper-told, told-past}
-use Rattle.rsb_streams.proofs.checking.Comparisons.{IsRanked}
-use Rattle.rsb_streams.proofs.unsorted.Loop.{answer-last, answer-span, so_far-first, so_far-joined, so_far-none, so_far-skip, span-goes}
+use Rattle.rsb_streams.proofs.lemmas.unsorted.Apart.{apart-told, empty-told, is_after, joined-first, joined-last, joined-proper, meet-told, proper-told, told-past}
+use Rattle.rsb_streams.proofs.lemmas.checking.Comparisons.{IsRanked}
+use Rattle.rsb_streams.proofs.lemmas.unsorted.Loop.{answer-last, answer-span, so_far-first, so_far-joined, so_far-none, so_far-skip, span-goes}
 use Rattle.rsb_streams.proofs.unsorted_disjoint.UnsortedDisjointIterator.next.Given.{Over}
 use Rattle.rsb_streams.proofs.unsorted_disjoint.UnsortedDisjointIterator.next.Goals as goal
 use Rattle.rsb_streams.proofs.unsorted_disjoint.UnsortedDisjointIterator.next.Goals.{then-past-via-then-past, then-past-via-else-past+then-before}

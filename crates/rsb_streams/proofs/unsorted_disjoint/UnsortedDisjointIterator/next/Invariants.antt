@@ -1,6 +1,6 @@
 use Rattle.std.specs.Iterator.{size}
 use Rattle.rsb_streams.specs.Fused.{fuse_remaining}
-use Rattle.rsb_streams.proofs.unsorted.Loop.{SoFar}
+use Rattle.rsb_streams.proofs.lemmas.unsorted.Loop.{SoFar}
 use Rattle.rsb_streams.proofs.unsorted_disjoint.UnsortedDisjointIterator.next.Given as goal
 
 abbrev pub invariant-loop-range : goal.invariant-loop-range

@@ -1,5 +1,5 @@
 use Rattle.rsb_streams.specs.Lookahead.{Left}
-use Rattle.rsb_streams.proofs.calling.Results.{first-few}
+use Rattle.rsb_streams.proofs.lemmas.calling.Results.{first-few}
 use Rattle.rsb_streams_tests.proofs.streams.lookahead.first_of_both.Goals as goal
 
 -- The union is new, so its first call draws few ranges.

@@ -1,4 +1,4 @@
-use Rattle.rsb_streams.proofs.calling.Results.{complement-twice}
+use Rattle.rsb_streams.proofs.lemmas.calling.Results.{complement-twice}
 use Rattle.rsb_streams_tests.proofs.streams.nested.complement_twice.Goals as goal
 
 pub returns-clause-gives : goal.returns-clause-gives

@@ -1,4 +1,4 @@
-use Rattle.rsb_streams.proofs.sources.Lawful.{canonical-touching_source}
+use Rattle.rsb_streams.proofs.lemmas.sources.Lawful.{canonical-touching_source}
 use Rattle.std.proofs.Common.{sym, subst}
 use Rattle.rsb_streams_tests.proofs.streams.nested.touching.Goals as goal
 

@@ -1,5 +1,5 @@
 use Rattle.rsb_integer.specs.Selection.{union}
-use Rattle.rsb_streams.proofs.calling.Results.{runs_by_two-within}
+use Rattle.rsb_streams.proofs.lemmas.calling.Results.{runs_by_two-within}
 use Rattle.rsb_streams_tests.proofs.streams.nested.union_with_complement.Goals as goal
 
 pub returns-clause-gives : goal.returns-clause-gives

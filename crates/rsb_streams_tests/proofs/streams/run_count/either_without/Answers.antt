@@ -1,6 +1,6 @@
 use Rattle.std.proofs.Common.{◌+◌}
 use Rattle.rsb_integer.specs.Selection.{difference, union}
-use Rattle.rsb_streams.proofs.calling.Results.{operation-at_most}
+use Rattle.rsb_streams.proofs.lemmas.calling.Results.{operation-at_most}
 use Rattle.rsb_streams_tests.proofs.streams.run_count.either_without.Goals as goal
 
 -- The result has at most as many runs as the union and the third stream together. The union has at

@@ -1,4 +1,4 @@
-use Rattle.rsb_streams.proofs.calling.Nested.{equal-of_both}
+use Rattle.rsb_streams.proofs.lemmas.calling.Nested.{equal-of_both}
 use Rattle.rsb_streams_tests.proofs.streams.set_algebra.are_the_same.Goals as goal
 
 pub returns : goal.returns

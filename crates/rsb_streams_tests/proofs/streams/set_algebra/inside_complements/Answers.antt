@@ -1,6 +1,6 @@
 use Rattle.std.proofs.Common.{sym}
 use Rattle.rsb_integer.specs.Selection.{complement, intersection, union}
-use Rattle.rsb_streams.proofs.calling.Nested.{intersection-respects, neither-of, runs_by_two-after, runs_by_two-same}
+use Rattle.rsb_streams.proofs.lemmas.calling.Nested.{intersection-respects, neither-of, runs_by_two-after, runs_by_two-same}
 use Rattle.rsb_streams_tests.proofs.streams.set_algebra.inside_complements.Goals as goal
 
 pub returns-clause-gives : goal.returns-clause-gives

@@ -1,5 +1,5 @@
 use Rattle.rsb_integer.specs.Selection.{complement, union}
-use Rattle.rsb_streams.proofs.calling.Nested.{both-of}
+use Rattle.rsb_streams.proofs.lemmas.calling.Nested.{both-of}
 use Rattle.rsb_streams_tests.proofs.streams.set_algebra.neither_is_the_same.Goals as goal
 
 pub returns : goal.returns

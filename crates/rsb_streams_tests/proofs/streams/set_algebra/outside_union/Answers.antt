@@ -1,5 +1,5 @@
 use Rattle.rsb_integer.specs.Selection.{complement, union}
-use Rattle.rsb_streams.proofs.calling.Results.{complement-respects, runs_by-after_two, runs_by-within}
+use Rattle.rsb_streams.proofs.lemmas.calling.Results.{complement-respects, runs_by-after_two, runs_by-within}
 use Rattle.rsb_streams_tests.proofs.streams.set_algebra.outside_union.Goals as goal
 
 pub returns-clause-gives : goal.returns-clause-gives

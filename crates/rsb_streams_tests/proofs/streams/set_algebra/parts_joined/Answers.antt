@@ -1,5 +1,5 @@
 use Rattle.rsb_integer.specs.Selection.{difference, intersection, union}
-use Rattle.rsb_streams.proofs.calling.Nested.{both-of, left-of_both, parts-join, runs_by_two-same, two-of_both, union-respects}
+use Rattle.rsb_streams.proofs.lemmas.calling.Nested.{both-of, left-of_both, parts-join, runs_by_two-same, two-of_both, union-respects}
 use Rattle.rsb_streams.specs.Stream.{just}
 use Rattle.rsb_streams_tests.proofs.streams.set_algebra.parts_joined.Goals as goal
 

@@ -1,4 +1,4 @@
-use Rattle.rsb_streams.proofs.calling.Results.{intersection-by_complements}
+use Rattle.rsb_streams.proofs.lemmas.calling.Results.{intersection-by_complements}
 use Rattle.rsb_streams_tests.proofs.streams.six_operations.in_all_three.Goals as goal
 
 pub returns-clause-gives : goal.returns-clause-gives

@@ -1,4 +1,4 @@
-use Rattle.rsb_streams.proofs.calling.Results.{union-of_complements}
+use Rattle.rsb_streams.proofs.lemmas.calling.Results.{union-of_complements}
 use Rattle.rsb_streams_tests.proofs.streams.six_operations.left_out_of_two.Goals as goal
 
 pub returns-clause-gives : goal.returns-clause-gives

@@ -1,5 +1,5 @@
 use Rattle.rsb_integer.specs.Selection.{symmetric_difference}
-use Rattle.rsb_streams.proofs.calling.Nested.{both-of}
+use Rattle.rsb_streams.proofs.lemmas.calling.Nested.{both-of}
 use Rattle.rsb_streams_tests.proofs.streams.symmetric_algebra.alone_is_the_same.Goals as goal
 
 -- Both streams are built by the same operation on the lists.

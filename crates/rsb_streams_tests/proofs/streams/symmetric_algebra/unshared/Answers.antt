@@ -1,5 +1,5 @@
 use Rattle.rsb_integer.specs.Selection.{difference, intersection, symmetric_difference, union}
-use Rattle.rsb_streams.proofs.calling.Nested.{both-of, difference-respects, runs_by_two-same, two-of_both, unshared-alone}
+use Rattle.rsb_streams.proofs.lemmas.calling.Nested.{both-of, difference-respects, runs_by_two-same, two-of_both, unshared-alone}
 use Rattle.rsb_streams.specs.Stream.{just}
 use Rattle.rsb_streams_tests.proofs.streams.symmetric_algebra.unshared.Goals as goal
 

@@ -1,6 +1,6 @@
 -- A list of one range is canonical.
 use Rattle.std.proofs.Common.{rules}
-use Rattle.rsb_streams.proofs.sources.Arrays.{array-apart}
+use Rattle.rsb_streams.proofs.lemmas.sources.Arrays.{array-apart}
 use Rattle.rsb_streams_tests.proofs.streams.weekends.weekends_come_each_seven_days_and_leave_the_others.Goals as goal
 
 pub new-september-requires : goal.new-september-requires

@@ -36,7 +36,7 @@ use denote.RawPtr.{block_ptr}
 use denote.Builtin.{usize, RefOf}
 use denote.Triple.Call.{calls_at}
 use Rattle.std.proofs.alloc.Calls.{Al, α, seen, Answer, answer_val, Answer-typed, Answer-Ok, Answer-err, takes_key, Takes, at_takes, Answered, Takes-goes, Takes-gives, answers}
-use Rattle.rsb_tables.proofs.Counted.{Refuses, at_refuses, Refuses-goes, Refuses-gives}
+use Rattle.rsb_tables.proofs.lemmas.Counted.{Refuses, at_refuses, Refuses-goes, Refuses-gives}
 use Rattle.rsb_tables.proofs.counting.is_refused.Symbol as c_sym
 use Rattle.rsb_tables.proofs.counting.is_refused.Met as c_met
 use Rattle.rsb_tables.specs.contracts.counting.Counts as counts

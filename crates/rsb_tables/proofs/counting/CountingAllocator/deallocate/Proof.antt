@@ -38,7 +38,7 @@ use denote.RawPtr.{Ptr, block_ptr, null_ptr, ptr_val, rawptr_vals, rawptr_Tells}
 use denote.Builtin.{usize, RawPtr, RefOf}
 use denote.Triple.Call.{calls_at}
 use Rattle.std.proofs.alloc.Calls.{Al, α, seen, token, gives_key, Gives, at_gives, Gives-goes, Gives-Gives}
-use Rattle.rsb_tables.proofs.Counted.{Frees, at_frees, Frees-goes, Frees-gives}
+use Rattle.rsb_tables.proofs.lemmas.Counted.{Frees, at_frees, Frees-goes, Frees-gives}
 use Rattle.rsb_tables.proofs.counting.note_free.Symbol as c_sym
 use Rattle.rsb_tables.proofs.counting.note_free.Met as c_met
 use Rattle.rsb_tables.specs.contracts.counting.Counts as counts

@@ -1,6 +1,6 @@
 use Rattle.std.proofs.Common.{arith}
-use Rattle.address_lists.proofs.aligned.Powers.{pow-under}
-use Rattle.address_lists.proofs.aligned.Split.{free-bits, split-part, split-whole}
+use Rattle.address_lists.proofs.lemmas.aligned.Powers.{pow-under}
+use Rattle.address_lists.proofs.lemmas.aligned.Split.{free-bits, split-part, split-whole}
 use Rattle.address_lists.proofs.blocks.span.Span.split.Goals as goal
 
 -- The block is not larger than the type.

@@ -1,5 +1,5 @@
 use Rattle.std.proofs.Common.{arith}
-use Rattle.address_lists.proofs.spelling.Groups.{eight_groups, elided_groups}
+use Rattle.address_lists.proofs.lemmas.spelling.Groups.{eight_groups, elided_groups}
 use Rattle.address_lists.proofs.line.family.U128Family.read.Goals as goal
 
 -- Eight groups are an address.

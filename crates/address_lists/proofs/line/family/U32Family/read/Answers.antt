@@ -1,6 +1,6 @@
 use Rattle.std.proofs.Common.{refl}
 use Rattle.std.specs.Net.Text.{dotted_text}
-use Rattle.address_lists.proofs.spelling.Octets.{dotted}
+use Rattle.address_lists.proofs.lemmas.spelling.Octets.{dotted}
 use Rattle.address_lists.proofs.line.family.U32Family.read.Goals as goal
 
 -- Four octets with dots between them are an address.

@@ -1,7 +1,8 @@
 use Rattle.std.proofs.Common.{ℕ}
 use Rattle.range_set_blaze.specs.Runs.{members}
-use Rattle.address_lists.specs.Gathering.{gathered_v4, gathered_v6, spans_of}
-use Rattle.address_lists.proofs.listing.Selected.{adds_v4, adds_v6, fresh_v4, fresh_v6, no_v4, no_v6, pushed}
+use Rattle.address_lists.specs.Gathering.{gathered_v4, gathered_v6}
+use Rattle.address_lists.specs.Pairs.{spans_of}
+use Rattle.address_lists.proofs.lemmas.listing.Selected.{adds_v4, adds_v6, fresh_v4, fresh_v6, no_v4, no_v6, pushed}
 use Rattle.address_lists.proofs.list.gathered.Gathered.add.Goals as goal
 
 -- A line without addresses adds none.

@@ -2,7 +2,7 @@ use Rattle.std.proofs.Common.{◌++◌, drop, length, subst, sym}
 use Rattle.std.proofs.lemmas.Result.{on_ok_weaker}
 use Rattle.std.specs.Io.BufRead.{FillKeeps}
 use Rattle.address_lists.specs.Gathering.{AreGatheredBefore}
-use Rattle.address_lists.proofs.listing.Buffered.{shown_consumed}
+use Rattle.address_lists.proofs.lemmas.listing.Buffered.{shown_consumed}
 use Rattle.address_lists.proofs.list.gathered.Gathered.add_buffered.Goals as goal
 
 -- The whole lines of the buffer were gathered, and consumed.

@@ -1,5 +1,5 @@
 use Rattle.std.proofs.Common.{arith}
-use Rattle.address_lists.proofs.listing.Reading.{gathered_line, same_meaning}
+use Rattle.address_lists.proofs.lemmas.listing.Reading.{gathered_line, same_meaning}
 use Rattle.address_lists.proofs.list.gathered.Gathered.add_line.Goals as goal
 
 pub returns-clause-gathered : goal.returns-clause-gathered

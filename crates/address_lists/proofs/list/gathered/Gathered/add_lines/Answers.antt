@@ -1,6 +1,6 @@
 use Rattle.std.proofs.Common.{◌++◌, arith, subst}
 use Rattle.address_lists.specs.List.{IsPastBadLine}
-use Rattle.address_lists.proofs.listing.Buffered.{drop_on, found_bad, found_next, left_shorter}
+use Rattle.address_lists.proofs.lemmas.listing.Buffered.{drop_on, found_bad, found_next, left_shorter}
 use Rattle.address_lists.proofs.list.gathered.Gathered.add_lines.Goals as goal
 
 pub returns-in-Err-clause-bad_line : goal.returns-in-Err-clause-bad_line

@@ -1,5 +1,5 @@
 use Rattle.std.proofs.Common.{refl}
-use Rattle.address_lists.proofs.listing.Reading.{gathered_none}
+use Rattle.address_lists.proofs.lemmas.listing.Reading.{gathered_none}
 use Rattle.address_lists.proofs.list.gathered.Gathered.new.Goals as goal
 
 pub returns : goal.returns

@@ -1,4 +1,4 @@
-use Rattle.range_set_blaze.proofs.elements.Listed.{whole-over}
+use Rattle.range_set_blaze.proofs.lemmas.elements.Listed.{whole-over}
 use Rattle.range_set_blaze.proofs.set.elements.RangeSetBlazeIntoIterator.into_iter.Goals as goal
 
 -- Nothing has been taken from the runs yet, and they are canonical.

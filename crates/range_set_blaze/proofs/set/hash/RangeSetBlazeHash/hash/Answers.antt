@@ -1,11 +1,11 @@
 use Rattle.std.proofs.Common.{arith, subst, sym}
 use Rattle.std.specs.Hash.{fed_then}
 use Rattle.rsb_integer.specs.Runs.{members, IsCanonicalIn}
-use Rattle.rsb_integer.proofs.CountLemmas.{count-within}
-use Rattle.rsb_integer.proofs.RangeLemmas.{value_at-rank}
-use Rattle.rsb_integer.proofs.RunsLemmas.{canonical-maximal}
-use Rattle.range_set_blaze.specs.Kept.{runs_of}
-use Rattle.range_set_blaze.proofs.order.FedRuns.{entries-fed, run_bounds-canonical}
+use Rattle.rsb_integer.proofs.lemmas.Count.{count-within}
+use Rattle.rsb_integer.proofs.lemmas.Range.{value_at-rank}
+use Rattle.rsb_integer.proofs.lemmas.Runs.{canonical-maximal}
+use Rattle.range_set_blaze.specs.Storage.{runs_of}
+use Rattle.range_set_blaze.proofs.lemmas.order.FedRuns.{entries-fed, run_bounds-canonical}
 use Rattle.range_set_blaze.proofs.set.hash.RangeSetBlazeHash.hash.Goals as goal
 
 -- The length and the entries feed the hasher what the list of runs does.

@@ -1,11 +1,11 @@
 use Rattle.std.proofs.Common.{arith, ◌∷◌, []}
 use Rattle.std.proofs.lemmas.Bool.Decides.{nat_tests}
 use Rattle.std.proofs.lemmas.List.{map-append}
-use Rattle.rsb_integer.proofs.AnyOfLemmas.{any_of-one_more}
+use Rattle.rsb_integer.proofs.lemmas.AnyOf.{any_of-one_more}
 use Rattle.range_set_blaze.specs.Algebra.{AddsValues}
 use Rattle.range_set_blaze.specs.Lent.{pointed_to}
 use Rattle.range_set_blaze.specs.Set.{only}
-use Rattle.rsb_many.proofs.inputs.HandedIn.{ended-run}
+use Rattle.rsb_many.proofs.lemmas.inputs.HandedIn.{ended-run}
 use denote.Ref.{Bor}
 use Rattle.range_set_blaze.proofs.set.lent.RangeSetBlazeExtendRef.extend.Goals as goal
 

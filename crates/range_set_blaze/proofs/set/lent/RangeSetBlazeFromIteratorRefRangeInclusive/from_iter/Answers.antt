@@ -1,5 +1,5 @@
 use Rattle.std.proofs.lemmas.Result.{IfOk-weaker}
-use Rattle.range_set_blaze.proofs.gathering.LentItems.{lent-gave}
+use Rattle.range_set_blaze.proofs.lemmas.gathering.LentItems.{lent-gave}
 use Rattle.range_set_blaze.proofs.set.lent.RangeSetBlazeFromIteratorRefRangeInclusive.from_iter.Goals as goal
 
 -- The ranges have the members of those that were given by reference.

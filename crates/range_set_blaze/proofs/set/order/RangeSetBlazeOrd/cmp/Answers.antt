@@ -1,5 +1,5 @@
 use Rattle.range_set_blaze.specs.OrderLaws.{order-holds}
-use Rattle.range_set_blaze.proofs.order.OneOrder.{order-unique}
+use Rattle.range_set_blaze.proofs.lemmas.order.OneOrder.{order-unique}
 use Rattle.range_set_blaze.proofs.set.order.RangeSetBlazeOrd.cmp.Goals as goal
 
 -- Two sets have only one order.

@@ -1,6 +1,6 @@
 use Rattle.std.proofs.Common.{◌∙◌, ap, sym}
-use Rattle.range_set_blaze.specs.Kept.{runs_of}
-use Rattle.range_set_blaze.proofs.order.EndRuns.{first-entry}
+use Rattle.range_set_blaze.specs.Storage.{runs_of}
+use Rattle.range_set_blaze.proofs.lemmas.order.EndRuns.{first-entry}
 use Rattle.range_set_blaze.proofs.set.runs.Runs.after.Goals as goal
 
 -- The first of the entries past the value is that of the first run that starts after it.

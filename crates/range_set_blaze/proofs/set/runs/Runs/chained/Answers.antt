@@ -2,10 +2,10 @@ use Rattle.std.proofs.Common.{◌≡◌, ◌∙◌, ◌++◌, ap, map-id, rules,
 use Rattle.std.proofs.lemmas.Iterator.{items_from_drains, YieldsList-from_map}
 use Rattle.std.proofs.lemmas.Iterator.Consumers.{YieldsList-at, YieldsList-from_chain, YieldsList-from_rest}
 use Rattle.std.proofs.lemmas.List.{map-append}
-use Rattle.range_set_blaze.specs.Kept.{entry_run, runs_of}
+use Rattle.range_set_blaze.specs.Storage.{entry_run, runs_of}
 use Rattle.range_set_blaze.specs.Starts.{StartsAscendFrom}
-use Rattle.range_set_blaze.proofs.gathering.Filled.{made-entries}
-use Rattle.range_set_blaze.proofs.runs.Starts.{canonical-rises}
+use Rattle.range_set_blaze.proofs.lemmas.gathering.Filled.{made-entries}
+use Rattle.range_set_blaze.proofs.lemmas.runs.Starts.{canonical-rises}
 use Rattle.range_set_blaze.proofs.set.runs.Runs.chained.Given.{Over}
 use Rattle.range_set_blaze.proofs.set.runs.Runs.chained.Goals as goal
 

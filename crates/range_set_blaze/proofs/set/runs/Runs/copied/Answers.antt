@@ -1,8 +1,8 @@
 use Rattle.std.proofs.Common.{◌≡◌, ◌∙◌, ap, map-id, rules, sym}
 use Rattle.std.proofs.lemmas.Iterator.{items_from_drains, YieldsList-from_map}
 use Rattle.std.proofs.lemmas.Iterator.Consumers.{YieldsList-at, YieldsList-from_rest}
-use Rattle.range_set_blaze.specs.Kept.{runs_of}
-use Rattle.range_set_blaze.proofs.gathering.Filled.{made-entries}
+use Rattle.range_set_blaze.specs.Storage.{runs_of}
+use Rattle.range_set_blaze.proofs.lemmas.gathering.Filled.{made-entries}
 use Rattle.range_set_blaze.proofs.set.runs.Runs.copied.Given.{Over}
 use Rattle.range_set_blaze.proofs.set.runs.Runs.copied.Goals as goal
 

@@ -1,8 +1,8 @@
 use Rattle.std.proofs.Common.{◌∙◌, ap}
 use Rattle.std.proofs.IntoIterSteps.{All-taken}
-use Rattle.range_set_blaze.proofs.gathering.Filled.{made-entries}
-use Rattle.range_set_blaze.specs.Kept.{runs_of}
-use Rattle.range_set_blaze.proofs.runs.Starts.{canonical-rises}
+use Rattle.range_set_blaze.proofs.lemmas.gathering.Filled.{made-entries}
+use Rattle.range_set_blaze.specs.Storage.{runs_of}
+use Rattle.range_set_blaze.proofs.lemmas.runs.Starts.{canonical-rises}
 use Rattle.range_set_blaze.proofs.set.runs.Runs.from_entries.Goals as goal
 
 -- The entries come in order, so the map has exactly these.

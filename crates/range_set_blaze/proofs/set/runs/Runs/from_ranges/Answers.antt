@@ -3,11 +3,11 @@ use Rattle.std.proofs.lemmas.Iterator.{items_from_drains, YieldsList-from_map}
 use Rattle.std.proofs.lemmas.Iterator.Adapters.{YieldsList-from_vec}
 use Rattle.std.proofs.lemmas.Iterator.Consumers.{YieldsList-at}
 use Rattle.rsb_integer.specs.Rank.{intervals_of}
-use Rattle.range_set_blaze.specs.Kept.{runs_of}
+use Rattle.range_set_blaze.specs.Storage.{runs_of}
 use Rattle.range_set_blaze.specs.Starts.{StartsAscendFrom}
-use Rattle.range_set_blaze.proofs.gathering.Filled.{made-entries}
-use Rattle.range_set_blaze.proofs.gathering.InOrder.{bounds_of, runs_of-bounds}
-use Rattle.range_set_blaze.proofs.runs.Starts.{canonical-rises}
+use Rattle.range_set_blaze.proofs.lemmas.gathering.Filled.{made-entries}
+use Rattle.range_set_blaze.proofs.lemmas.gathering.InOrder.{bounds_of, runs_of-bounds}
+use Rattle.range_set_blaze.proofs.lemmas.runs.Starts.{canonical-rises}
 use Rattle.range_set_blaze.proofs.set.runs.Runs.from_ranges.Given.{Over}
 use Rattle.range_set_blaze.proofs.set.runs.Runs.from_ranges.Goals as goal
 

@@ -1,5 +1,5 @@
 use Rattle.std.proofs.Common.{◌∙◌, ap}
-use Rattle.range_set_blaze.specs.Kept.{runs_of}
+use Rattle.range_set_blaze.specs.Storage.{runs_of}
 use Rattle.range_set_blaze.proofs.set.runs.Runs.into_entries.Goals as goal
 
 -- The iterator gives the entries of the map.

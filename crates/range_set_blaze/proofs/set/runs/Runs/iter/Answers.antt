@@ -1,6 +1,6 @@
 use Rattle.std.proofs.Common.{◌∙◌, ap}
-use Rattle.range_set_blaze.specs.Kept.{runs_of}
-use Rattle.range_set_blaze.proofs.order.EndRuns.{length-runs_of}
+use Rattle.range_set_blaze.specs.Storage.{runs_of}
+use Rattle.range_set_blaze.proofs.lemmas.order.EndRuns.{length-runs_of}
 use Rattle.range_set_blaze.proofs.set.runs.Runs.iter.Goals as goal
 
 -- The iterator gives the entries of the map.

@@ -1,5 +1,5 @@
 use Rattle.std.proofs.Common.{arith, refl}
-use Rattle.range_set_blaze.proofs.order.EndRuns.{last-run, length-runs_of, no-items}
+use Rattle.range_set_blaze.proofs.lemmas.order.EndRuns.{last-run, length-runs_of, no-items}
 use Rattle.range_set_blaze.proofs.set.runs.Runs.last.Goals as goal
 
 -- If there is no entry, there is no run.

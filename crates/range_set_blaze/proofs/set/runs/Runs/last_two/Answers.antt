@@ -1,7 +1,7 @@
 use Rattle.std.proofs.Common.{◌∙◌, ◌+◌, ap, Some, None}
-use Rattle.range_set_blaze.specs.Kept.{runs_of}
-use Rattle.range_set_blaze.proofs.runs.Found.{found-last, found-two}
-use Rattle.range_set_blaze.proofs.runs.Maps.{runs-up_to}
+use Rattle.range_set_blaze.specs.Storage.{runs_of}
+use Rattle.range_set_blaze.proofs.lemmas.runs.Found.{found-last, found-two}
+use Rattle.range_set_blaze.proofs.lemmas.runs.Maps.{runs-up_to}
 use Rattle.range_set_blaze.proofs.set.runs.Runs.last_two.Goals as goal
 
 -- If the range has no entry, no run starts at or before the value.

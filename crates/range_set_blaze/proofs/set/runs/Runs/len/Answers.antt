@@ -1,5 +1,5 @@
 use Rattle.std.proofs.Common.{◌∙◌, sym}
-use Rattle.range_set_blaze.proofs.order.EndRuns.{length-runs_of}
+use Rattle.range_set_blaze.proofs.lemmas.order.EndRuns.{length-runs_of}
 use Rattle.range_set_blaze.proofs.set.runs.Runs.len.Goals as goal
 
 -- There are as many runs as entries.

@@ -1,6 +1,6 @@
 use Rattle.std.proofs.Common.{◌∙◌, ◌<◌, ap, arith}
 use Rattle.std.specs.Ordering.{is_le}
-use Rattle.range_set_blaze.proofs.windows.Ranges.{filter-neither, order-forward}
+use Rattle.range_set_blaze.proofs.lemmas.windows.Ranges.{filter-neither, order-forward}
 use Rattle.range_set_blaze.proofs.set.runs.Runs.no_entries.Goals as goal
 
 -- A value is not past itself.

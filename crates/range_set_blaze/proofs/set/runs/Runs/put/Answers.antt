@@ -1,8 +1,8 @@
 use Rattle.std.proofs.Common.{◌∙◌, ap, arith, sym, subst}
-use Rattle.range_set_blaze.specs.Kept.{run_of, runs_of}
+use Rattle.range_set_blaze.specs.Storage.{run_of, runs_of}
 use Rattle.range_set_blaze.specs.Starts.{StartsAscendFrom}
-use Rattle.range_set_blaze.proofs.runs.Maps.{lookup-none, runs-insert_entry}
-use Rattle.range_set_blaze.proofs.runs.Starts.{with_run-ascending}
+use Rattle.range_set_blaze.proofs.lemmas.runs.Maps.{lookup-none, runs-insert_entry}
+use Rattle.range_set_blaze.proofs.lemmas.runs.Starts.{with_run-ascending}
 use Rattle.range_set_blaze.proofs.set.runs.Runs.put.Goals as goal
 
 -- Only a new start may need an allocation.

@@ -1,8 +1,8 @@
 use Rattle.std.proofs.Common.{◌∙◌, ap, subst, sym}
-use Rattle.range_set_blaze.specs.Kept.{runs_of}
+use Rattle.range_set_blaze.specs.Storage.{runs_of}
 use Rattle.range_set_blaze.specs.Starts.{StartsAscendFrom}
-use Rattle.range_set_blaze.proofs.runs.Maps.{runs-below, runs-from}
-use Rattle.range_set_blaze.proofs.runs.Starts.{starting-ascending}
+use Rattle.range_set_blaze.proofs.lemmas.runs.Maps.{runs-below, runs-from}
+use Rattle.range_set_blaze.proofs.lemmas.runs.Starts.{starting-ascending}
 use Rattle.range_set_blaze.proofs.set.runs.Runs.split_off.Goals as goal
 
 -- The map keeps the entries below the key.

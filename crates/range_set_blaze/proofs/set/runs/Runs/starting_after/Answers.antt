@@ -1,6 +1,6 @@
 use Rattle.std.proofs.Common.{◌∙◌, ap}
-use Rattle.range_set_blaze.specs.Kept.{runs_of}
-use Rattle.range_set_blaze.proofs.runs.Maps.{runs-after}
+use Rattle.range_set_blaze.specs.Storage.{runs_of}
+use Rattle.range_set_blaze.proofs.lemmas.runs.Maps.{runs-after}
 use Rattle.range_set_blaze.proofs.set.runs.Runs.starting_after.Goals as goal
 
 -- The range has the entries past the value.

@@ -1,8 +1,8 @@
 use Rattle.std.proofs.Common.{◌∙◌, ap, arith}
 use Rattle.std.specs.BTreeMap.Range.{entries_between}
 use Rattle.std.specs.declared.ops.Bound.TheVariants.{Included}
-use Rattle.range_set_blaze.specs.Kept.{runs_of}
-use Rattle.range_set_blaze.proofs.windows.Ranges.{order-forward, runs-within}
+use Rattle.range_set_blaze.specs.Storage.{runs_of}
+use Rattle.range_set_blaze.proofs.lemmas.windows.Ranges.{order-forward, runs-within}
 use Rattle.range_set_blaze.proofs.set.runs.Runs.starting_in.Goals as goal
 
 -- The bounds are in order.

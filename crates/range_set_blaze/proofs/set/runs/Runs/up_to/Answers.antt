@@ -1,7 +1,7 @@
 use Rattle.std.proofs.Common.{◌∙◌, ◌+◌, ap}
-use Rattle.range_set_blaze.specs.Kept.{runs_of}
-use Rattle.range_set_blaze.proofs.runs.Found.{found-last}
-use Rattle.range_set_blaze.proofs.runs.Maps.{runs-up_to}
+use Rattle.range_set_blaze.specs.Storage.{runs_of}
+use Rattle.range_set_blaze.proofs.lemmas.runs.Found.{found-last}
+use Rattle.range_set_blaze.proofs.lemmas.runs.Maps.{runs-up_to}
 use Rattle.range_set_blaze.proofs.set.runs.Runs.up_to.Goals as goal
 
 -- The last entry of the range is that of the last run that starts at or before the value.

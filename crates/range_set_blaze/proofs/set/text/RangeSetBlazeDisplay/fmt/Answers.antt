@@ -1,9 +1,9 @@
 use Rattle.std.proofs.Common.{[], subst, sym}
 use Rattle.rsb_integer.specs.Runs.{members, IsCanonicalIn}
-use Rattle.rsb_integer.proofs.RangeLemmas.{value_at-rank}
-use Rattle.rsb_integer.proofs.RunsLemmas.{canonical-maximal}
-use Rattle.range_set_blaze.specs.Kept.{runs_of}
-use Rattle.range_set_blaze.proofs.texts.Pieces.{items-runs}
+use Rattle.rsb_integer.proofs.lemmas.Range.{value_at-rank}
+use Rattle.rsb_integer.proofs.lemmas.Runs.{canonical-maximal}
+use Rattle.range_set_blaze.specs.Storage.{runs_of}
+use Rattle.range_set_blaze.proofs.lemmas.texts.Pieces.{items-runs}
 use Rattle.range_set_blaze.proofs.set.text.RangeSetBlazeDisplay.fmt.Goals as goal
 
 -- The entries are those of the runs.

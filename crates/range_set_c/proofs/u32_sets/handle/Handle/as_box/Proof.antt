@@ -4,7 +4,7 @@ use mathlib.Core.Path.{refl}
 use base.Logic.{id⊢}
 use denote.Memory.{part_of}
 use denote.RattleType.{RattleType}
-use Rattle.range_set_c.proofs.Cast.{casts}
+use Rattle.range_set_c.proofs.lemmas.Cast.{casts}
 use Rattle.range_set_c.specs.U32Handle.{handle_of}
 use Rattle.range_set_c.specs.contracts.nullable_box.NullableBox as NullableBox
 use Rattle.range_set_c.specs.contracts.u32_sets.handle.Handle as Handle

@@ -4,8 +4,8 @@ use Rattle.std.proofs.Math.Bool.{beq}
 use Rattle.std.specs.Prelude.{nat_lt, not, ◌&&◌, ◌||◌}
 use Rattle.rsb_many.specs.Heads.{key_of, HasValues}
 use Rattle.rsb_many.specs.Keys.{comes_before}
-use Rattle.rsb_many.proofs.heap.Heads.{fact-at, key_at-is}
-use Rattle.rsb_many.proofs.heap.Keys.{comes_before-parts}
+use Rattle.rsb_many.proofs.lemmas.heap.Heads.{fact-at, key_at-is}
+use Rattle.rsb_many.proofs.lemmas.heap.Keys.{comes_before-parts}
 use Rattle.rsb_many.proofs.heads.compared.ComparedHeads.comes_first.Goals as goal
 
 -- Values compare as their ranks do.

@@ -1,5 +1,5 @@
 use Rattle.std.proofs.Common.{arith, sym, ◌∙◌}
-use Rattle.rsb_many.proofs.heap.Heads.{left-lesser, right-lesser}
+use Rattle.rsb_many.proofs.lemmas.heap.Heads.{left-lesser, right-lesser}
 use Rattle.rsb_many.proofs.heads.compared.ComparedHeads.lesser_child.Goals as goal
 
 -- The right child comes before the left one.

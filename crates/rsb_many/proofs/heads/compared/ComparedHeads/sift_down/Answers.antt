@@ -7,9 +7,9 @@ use Rattle.std.specs.Prelude.{IsPermutation}
 use Rattle.std.specs.Vec.{vec_len}
 use Rattle.rsb_many.specs.Heads.{binary_digits, HasValues}
 use Rattle.rsb_many.specs.HeapOrder.{key_at, IsBridged, IsHeapButUnder, IsHeapOf}
-use Rattle.rsb_many.proofs.heap.Digits.{binary_digits-more, binary_digits-parent, binary_digits-some, binary_digits-within}
-use Rattle.rsb_many.proofs.heap.Heads.{fact-at, sunk-answer, sunk-keys, sunk-kept, sunk-lesser}
-use Rattle.rsb_many.proofs.heap.Places.{sunk, sunk-bridged, sunk-here, sunk-last}
+use Rattle.rsb_many.proofs.lemmas.heap.Digits.{binary_digits-more, binary_digits-parent, binary_digits-some, binary_digits-within}
+use Rattle.rsb_many.proofs.lemmas.heap.Heads.{fact-at, sunk-answer, sunk-keys, sunk-kept, sunk-lesser}
+use Rattle.rsb_many.proofs.lemmas.heap.Places.{sunk, sunk-bridged, sunk-here, sunk-last}
 use Rattle.rsb_many.proofs.heads.compared.ComparedHeads.sift_down.Goals as goal
 
 -- The head that sinks is at the first place, which has no parent.

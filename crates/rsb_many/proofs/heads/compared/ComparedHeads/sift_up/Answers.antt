@@ -2,9 +2,9 @@ use Rattle.std.proofs.Common.{◌≡◌, ◌<◌, true, false, length, sym, ap, 
 use Rattle.std.proofs.lemmas.List.Sorted.{All-permutation, IsPermutation-swap, IsPermutation-trans}
 use Rattle.rsb_many.specs.Heads.{binary_digits, HasValues}
 use Rattle.rsb_many.specs.HeapOrder.{key_at, parent, IsBridged, IsHeapBut}
-use Rattle.rsb_many.proofs.heap.Digits.{binary_digits-parent, binary_digits-some}
-use Rattle.rsb_many.proofs.heap.Heads.{answer-at, fact-at, swapped-keys}
-use Rattle.rsb_many.proofs.heap.Places.{risen, risen-bridged, risen-here}
+use Rattle.rsb_many.proofs.lemmas.heap.Digits.{binary_digits-parent, binary_digits-some}
+use Rattle.rsb_many.proofs.lemmas.heap.Heads.{answer-at, fact-at, swapped-keys}
+use Rattle.rsb_many.proofs.lemmas.heap.Places.{risen, risen-bridged, risen-here}
 use Rattle.rsb_many.proofs.heads.compared.ComparedHeads.sift_up.Goals as goal
 
 pub comes_first-requires-clause-values : goal.comes_first-requires-clause-values

@@ -2,7 +2,7 @@ use Rattle.std.proofs.Common.{sym, subst}
 use Rattle.rsb_streams.specs.NotIter.{not_iter}
 use Rattle.rsb_many.specs.Many.{may_give_at, IsBegun}
 use Rattle.rsb_many.specs.MultiwayUnion.{multiway_union, multiway_union_inputs}
-use Rattle.rsb_many.proofs.merging.Operations.{complements-give}
+use Rattle.rsb_many.proofs.lemmas.merging.Operations.{complements-give}
 use Rattle.rsb_many.proofs.operation_results.multiway_intersection.MultiwayIntersection.of.Goals as goal
 
 -- The gaps of the union of the complements are what lies in all of the streams.

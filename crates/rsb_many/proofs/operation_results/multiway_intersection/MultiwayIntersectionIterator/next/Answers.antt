@@ -1,5 +1,5 @@
 use Rattle.rsb_streams.specs.NotIter.{not_iter}
-use Rattle.rsb_many.proofs.merging.Operations.{passes-use}
+use Rattle.rsb_many.proofs.lemmas.merging.Operations.{passes-use}
 use Rattle.rsb_many.proofs.operation_results.multiway_intersection.MultiwayIntersectionIterator.next.Goals as goal
 
 -- One draw of the complement makes draws of the union. These use only ranges of each input that lie

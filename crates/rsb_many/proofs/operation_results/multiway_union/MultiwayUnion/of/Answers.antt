@@ -1,7 +1,7 @@
 use Rattle.rsb_many.specs.KMerge.{kmerge_inputs}
 use Rattle.rsb_many.specs.Many.{may_give_at}
 use Rattle.rsb_many.specs.MultiwayUnion.{same_place}
-use Rattle.rsb_many.proofs.merging.Operations.{begins-gives, joins-begun}
+use Rattle.rsb_many.proofs.lemmas.merging.Operations.{begins-gives, joins-begun}
 use Rattle.rsb_many.proofs.operation_results.multiway_union.MultiwayUnion.of.Goals as goal
 
 -- The runs of the merge are those of what lies in some of the streams.

@@ -1,4 +1,4 @@
-use Rattle.rsb_streams.proofs.lookahead.Ahead.{asks-ahead}
+use Rattle.rsb_streams.proofs.lemmas.lookahead.Ahead.{asks-ahead}
 use Rattle.rsb_many.specs.KMerge.{kmerge, kmerge_inputs}
 use Rattle.rsb_many.specs.MultiwayUnion.{same_place}
 use Rattle.rsb_many.proofs.operation_results.multiway_union.MultiwayUnionIterator.next.Goals as goal

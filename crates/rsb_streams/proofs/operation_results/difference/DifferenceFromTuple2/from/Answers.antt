@@ -1,4 +1,4 @@
-use Rattle.rsb_streams.proofs.calling.Results.{difference-by_complements}
+use Rattle.rsb_streams.proofs.lemmas.calling.Results.{difference-by_complements}
 use Rattle.rsb_streams.proofs.operation_results.difference.DifferenceFromTuple2.from.Goals as goal
 
 -- The difference is the gaps of what is outside of the left stream or in the right one.

@@ -1,4 +1,4 @@
-use Rattle.rsb_streams.proofs.calling.Results.{intersection-by_complements}
+use Rattle.rsb_streams.proofs.lemmas.calling.Results.{intersection-by_complements}
 use Rattle.rsb_streams.proofs.operation_results.intersection.IntersectionFromTuple2.from.Goals as goal
 
 -- The intersection is the gaps of what is outside of one of the streams.

@@ -1,6 +1,6 @@
 use Rattle.rsb_streams.specs.Lookahead.{same_side}
 use Rattle.rsb_streams.specs.Merge.{merge, merge_inputs}
-use Rattle.rsb_streams.proofs.lookahead.Ahead.{asks-ahead}
+use Rattle.rsb_streams.proofs.lemmas.lookahead.Ahead.{asks-ahead}
 use Rattle.rsb_streams.proofs.operation_results.union.UnionIterator.next.Goals as goal
 
 -- A union of the merge looks ahead of its inputs.

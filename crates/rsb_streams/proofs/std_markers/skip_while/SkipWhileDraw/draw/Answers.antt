@@ -1,5 +1,5 @@
 use Rattle.rsb_streams.specs.AdapterLaws.{skip_while-drawn}
-use Rattle.rsb_streams.proofs.sources.Known.{drawn-call, goes-drawn}
+use Rattle.rsb_streams.proofs.lemmas.sources.Known.{drawn-call, goes-drawn}
 use Rattle.rsb_streams.proofs.std_markers.skip_while.SkipWhileDraw.draw.Goals as goal
 
 -- The adapter may be called.

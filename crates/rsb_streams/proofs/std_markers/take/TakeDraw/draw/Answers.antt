@@ -1,5 +1,5 @@
 use Rattle.rsb_streams.specs.AdapterLaws.{take-drawn}
-use Rattle.rsb_streams.proofs.sources.Known.{drawn-call}
+use Rattle.rsb_streams.proofs.lemmas.sources.Known.{drawn-call}
 use Rattle.rsb_streams.proofs.std_markers.take.TakeDraw.draw.Goals as goal
 
 -- A call of `next` is a draw.

@@ -1,0 +1,14 @@
+pub mod Answer
+pub mod Appends
+pub mod CommandLine
+pub mod Count
+pub mod Files
+pub mod Laid
+pub mod Lines
+pub mod Names
+pub mod OneAnswer
+pub mod Program
+pub mod ReadBack
+pub mod SameText
+pub mod Selection
+pub mod Text

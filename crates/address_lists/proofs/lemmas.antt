@@ -1,0 +1,4 @@
+pub mod Selecting
+pub mod aligned
+pub mod listing
+pub mod spelling

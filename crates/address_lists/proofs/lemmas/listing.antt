@@ -1,0 +1,11 @@
+pub mod Buffered
+pub mod Contents
+pub mod FirstLine
+pub mod Joined
+pub mod Known
+pub mod LineEnds
+pub mod OneSelection
+pub mod Pairs
+pub mod Reading
+pub mod Selected
+pub mod WrittenLines

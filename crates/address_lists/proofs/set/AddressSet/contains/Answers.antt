@@ -1,0 +1,10 @@
+use Rattle.std.proofs.Common.{◌∙◌, ap}
+use Rattle.range_set_blaze.specs.Runs.{members}
+use Rattle.address_lists.specs.Pairs.{spans_of}
+use Rattle.address_lists.proofs.set.AddressSet.contains.Goals as goal
+
+pub returns : goal.returns
+returns g c =
+    let rank = g.T.Integer.rank in
+    rw (← c.self.view_is) (c.any_has.ensures
+    ∙ ap (λ pairs. members (spans_of rank pairs) (rank c.args.address)) c.deref.ensures.value)

@@ -1,0 +1,54 @@
+//! Pairs of addresses, in order and joined.
+
+ghost use Rattle.std.specs.Prelude.{◌≡◌, ◌<◌, nat_le};
+ghost use Rattle.range_set_blaze.specs.Runs.{covers, members};
+ghost use Rattle.address_lists.specs.Pairs.{MayJoin, span_of, spans_of};
+
+use crate::blocks::Address;
+
+/// Returns whether the first address of a pair is not past the second.
+#[inline(always)]
+pub(crate) fn in_order<T: Address>(pair: &(T, T)) -> bool
+    ensures test { result ≡ nat_le (T.rank pair.now.0) (T.rank pair.now.1) }
+    ensures within { T.rank pair.now.1 < T.value_count }
+{
+    pair.0.number() <= pair.1.number()
+}
+
+/// Returns whether a pair starts within the last one before it or right after its end. The last one
+/// then ends where the later of the two does.
+#[inline(always)]
+pub(crate) fn joins<T: Address>(next: &mut (T, T), last: &mut (T, T)) -> bool
+    ensures next { next.new ≡ next.old }
+    ensures last { MayJoin T.rank next.old last.old result last.new }
+{
+    let start = next.0.number();
+    let end = last.1.number();
+    if end < start && start - end > 1 {
+        return false;
+    }
+    if end < next.1.number() {
+        last.1 = next.1;
+    }
+    true
+}
+
+/// Returns whether an address is in one of some runs.
+pub(crate) fn any_has<T: Address>(runs: &[(T, T)], address: T) -> bool
+    ensures { result ≡ members (spans_of T.rank runs.now) (T.rank address) }
+{
+    for run in runs {
+        if has(run, address) {
+            return true;
+        }
+    }
+    false
+}
+
+// Returns whether an address is in a run.
+fn has<T: Address>(run: &(T, T), address: T) -> bool
+    ensures { result ≡ covers (span_of T.rank run.now) (T.rank address) }
+{
+    let number = address.number();
+    run.0.number() <= number && number <= run.1.number()
+}

@@ -1,0 +1,30 @@
+//! Tests of sets, by subject.
+
+mod element_types;
+mod elements;
+mod empty_sets;
+mod first_fit;
+mod hashes;
+mod headline;
+mod lacking;
+mod laws;
+mod look_ups;
+mod macros;
+mod one_set_more;
+mod operators;
+mod order;
+mod own_types;
+mod parse;
+mod prelude;
+mod range;
+mod ranges;
+mod ranked;
+mod retain_conditions;
+mod std_habits;
+mod std_traits;
+mod steps;
+mod subsets;
+mod texts;
+mod threads;
+mod unshared;
+mod windows;

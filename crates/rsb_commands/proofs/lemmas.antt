@@ -1,0 +1,3 @@
+pub mod replying
+pub mod streaming
+pub mod writing

@@ -1,0 +1,12 @@
+pub mod AnyOf
+pub mod AtLeast
+pub mod Begins
+pub mod Canonical
+pub mod Count
+pub mod Examples
+pub mod List
+pub mod Maximal
+pub mod Members
+pub mod Range
+pub mod RunCount
+pub mod Runs

@@ -1,0 +1,12 @@
+pub mod calling
+pub mod checking
+pub mod filling
+pub mod gaps
+pub mod joining
+pub mod lookahead
+pub mod merging
+pub mod odd
+pub mod questions
+pub mod sorting
+pub mod sources
+pub mod unsorted
