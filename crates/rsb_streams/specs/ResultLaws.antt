@@ -1,7 +1,7 @@
 -- The laws of the results of operations on streams: each is canonical.
 use Rattle.rsb_integer.specs.declared.integer.Integer.{Ghosts as Elements}
-use Rattle.rsb_streams.specs.Difference.{difference}
-use Rattle.rsb_streams.specs.Intersection.{intersection}
+use Rattle.rsb_streams.specs.Difference.{difference_row}
+use Rattle.rsb_streams.specs.Intersection.{intersection_row}
 use Rattle.rsb_streams.specs.Merge.{merge}
 use Rattle.rsb_streams.specs.MergeLaws.{merge-sorted}
 use Rattle.rsb_streams.specs.NotIter.{not_iter}
@@ -11,7 +11,7 @@ use Rattle.rsb_streams.specs.OddPiecesLaws.{odd_pieces-sorted}
 use Rattle.rsb_streams.specs.StreamLaws.{disjoint-sorted}
 use Rattle.rsb_streams.specs.Rows.{IsDisjoint, IsSorted}
 use Rattle.rsb_streams.specs.SymDiffIter.{sym_diff}
-use Rattle.rsb_streams.specs.Union.{union}
+use Rattle.rsb_streams.specs.Union.{union_row}
 use Rattle.rsb_streams.specs.UnionIter.{union_iter}
 use Rattle.rsb_streams.specs.UnionIterLaws.{union_iter-disjoint}
 use Rattle.rsb_streams.specs.declared.draw.Draw.{Ghosts as Stream}
@@ -36,7 +36,7 @@ module _ {T N L R : Type 0} (integer : Elements T N) (left : Stream L T N) (righ
       not_iter-disjoint integer both (disjoint-sorted integer both joined-disjoint)
 
   -- The union of two streams is canonical.
-  pub union-disjoint : IsDisjoint integer (union integer left right)
+  pub union-disjoint : IsDisjoint integer (union_row integer left right)
   union-disjoint s = joined-disjoint s.iter
 
   -- The symmetric difference of two streams is canonical.
@@ -49,11 +49,11 @@ module _ {T N L R : Type 0} (integer : Elements T N) (left : Stream L T N) (righ
 module _ {T N L R : Type 0} (integer : Elements T N) (left : Stream L T N) (right : Stream R T N)
     (left_sorted : IsSorted integer left) (right_sorted : IsSorted integer right) where
   -- The difference of two streams is canonical.
-  pub difference-disjoint : IsDisjoint integer (difference integer left right)
+  pub difference-disjoint : IsDisjoint integer (difference_row integer left right)
   difference-disjoint s = gaps-disjoint integer (not_iter integer left) right
       (not_iter-sorted integer left left_sorted) right_sorted s.iter
 
   -- The intersection of two streams is canonical.
-  pub intersection-disjoint : IsDisjoint integer (intersection integer left right)
+  pub intersection-disjoint : IsDisjoint integer (intersection_row integer left right)
   intersection-disjoint s = gaps-disjoint integer (not_iter integer left) (not_iter integer right)
       (not_iter-sorted integer left left_sorted) (not_iter-sorted integer right right_sorted) s.iter

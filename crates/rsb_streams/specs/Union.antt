@@ -16,8 +16,8 @@ module _ {T N L R : Type 0} (integer : Elements T N) (left : Stream L T N)
   joined_merge = union_iter integer (merge integer left right)
 
   -- The union: a draw looks at most one range ahead in each stream.
-  abbrev pub union : Stream (Union T L R) T N
-  union = stream_asking integer
+  abbrev pub union_row : Stream (Union T L R) T N
+  union_row = stream_asking integer
       (λ s item t. AsksAhead same_side integer (merge_inputs integer left right) s.iter item t.iter)
       (λ s. joined_merge.can_draw s.iter)
       (λ s. joined_merge.draws_left s.iter)

@@ -1,6 +1,6 @@
 //! The difference of two streams.
 
-ghost use Rattle.rsb_streams.specs.Difference.{difference};
+ghost use Rattle.rsb_streams.specs.Difference.{difference_row};
 ghost use Rattle.rsb_streams.specs.ResultLaws.{difference-disjoint};
 ghost use Rattle.rsb_streams.specs.Results.{MakesDifference};
 ghost use Rattle.rsb_streams.specs.StreamLaws.{canonical_stream-starts, drawn-itself};
@@ -40,11 +40,11 @@ impl<T: Integer, L: DrawDisjoint<T>, R: DrawDisjoint<T>> From<(L, R)> for Differ
 impl<T: Integer, L: Draw<T>, R: Draw<T>> Iterator for Difference<T, L, R> {
     type Item = RangeInclusive<T>;
 
-    ghost can_next = { (difference T.Integer.own L.Draw R.Draw).can_draw };
+    ghost can_next = { (difference_row T.Integer.own L.Draw R.Draw).can_draw };
 
-    ghost next_gives = { (difference T.Integer.own L.Draw R.Draw).draw_gives };
+    ghost next_gives = { (difference_row T.Integer.own L.Draw R.Draw).draw_gives };
 
-    ghost remaining = { (difference T.Integer.own L.Draw R.Draw).draws_left };
+    ghost remaining = { (difference_row T.Integer.own L.Draw R.Draw).draws_left };
 
     fn next(&mut self) -> Option<RangeInclusive<T>> {
         self.iter.next()
@@ -60,7 +60,7 @@ impl<T: Integer, L: Draw<T>, R: Draw<T>> Draw<T> for Difference<T, L, R> {
 
     ghost draws_left = { ⟦<Difference<T, L, R> as Iterator>⟧.remaining };
 
-    ghost may_give = { (difference T.Integer.own L.Draw R.Draw).may_give };
+    ghost may_give = { (difference_row T.Integer.own L.Draw R.Draw).may_give };
 
     fn draw(&mut self) -> Option<RangeInclusive<T>> {
         self.next()

@@ -1,6 +1,6 @@
 //! The intersection of two streams.
 
-ghost use Rattle.rsb_streams.specs.Intersection.{intersection};
+ghost use Rattle.rsb_streams.specs.Intersection.{intersection_row};
 ghost use Rattle.rsb_streams.specs.ResultLaws.{intersection-disjoint};
 ghost use Rattle.rsb_streams.specs.Results.{MakesIntersection};
 ghost use Rattle.rsb_streams.specs.StreamLaws.{canonical_stream-starts, drawn-itself};
@@ -41,11 +41,11 @@ impl<T: Integer, L: DrawDisjoint<T>, R: DrawDisjoint<T>> From<(L, R)> for Inters
 impl<T: Integer, L: Draw<T>, R: Draw<T>> Iterator for Intersection<T, L, R> {
     type Item = RangeInclusive<T>;
 
-    ghost can_next = { (intersection T.Integer.own L.Draw R.Draw).can_draw };
+    ghost can_next = { (intersection_row T.Integer.own L.Draw R.Draw).can_draw };
 
-    ghost next_gives = { (intersection T.Integer.own L.Draw R.Draw).draw_gives };
+    ghost next_gives = { (intersection_row T.Integer.own L.Draw R.Draw).draw_gives };
 
-    ghost remaining = { (intersection T.Integer.own L.Draw R.Draw).draws_left };
+    ghost remaining = { (intersection_row T.Integer.own L.Draw R.Draw).draws_left };
 
     fn next(&mut self) -> Option<RangeInclusive<T>> {
         self.iter.next()
@@ -61,7 +61,7 @@ impl<T: Integer, L: Draw<T>, R: Draw<T>> Draw<T> for Intersection<T, L, R> {
 
     ghost draws_left = { ⟦<Intersection<T, L, R> as Iterator>⟧.remaining };
 
-    ghost may_give = { (intersection T.Integer.own L.Draw R.Draw).may_give };
+    ghost may_give = { (intersection_row T.Integer.own L.Draw R.Draw).may_give };
 
     fn draw(&mut self) -> Option<RangeInclusive<T>> {
         self.next()

@@ -3,7 +3,7 @@
 ghost use Rattle.rsb_streams.specs.Results.{MakesUnion};
 ghost use Rattle.rsb_streams.specs.ResultLaws.{union-disjoint};
 ghost use Rattle.rsb_streams.specs.StreamLaws.{canonical_stream-starts, drawn-itself};
-ghost use Rattle.rsb_streams.specs.Union.{union};
+ghost use Rattle.rsb_streams.specs.Union.{union_row};
 
 use crate::draw::Draw;
 use crate::merge::Merge;
@@ -37,11 +37,11 @@ impl<T: Integer, L: DrawDisjoint<T>, R: DrawDisjoint<T>> From<(L, R)> for Union<
 impl<T: Integer, L: Draw<T>, R: Draw<T>> Iterator for Union<T, L, R> {
     type Item = RangeInclusive<T>;
 
-    ghost can_next = { (union T.Integer.own L.Draw R.Draw).can_draw };
+    ghost can_next = { (union_row T.Integer.own L.Draw R.Draw).can_draw };
 
-    ghost next_gives = { (union T.Integer.own L.Draw R.Draw).draw_gives };
+    ghost next_gives = { (union_row T.Integer.own L.Draw R.Draw).draw_gives };
 
-    ghost remaining = { (union T.Integer.own L.Draw R.Draw).draws_left };
+    ghost remaining = { (union_row T.Integer.own L.Draw R.Draw).draws_left };
 
     fn next(&mut self) -> Option<RangeInclusive<T>> {
         self.iter.next()
@@ -57,7 +57,7 @@ impl<T: Integer, L: Draw<T>, R: Draw<T>> Draw<T> for Union<T, L, R> {
 
     ghost draws_left = { ⟦<Union<T, L, R> as Iterator>⟧.remaining };
 
-    ghost may_give = { (union T.Integer.own L.Draw R.Draw).may_give };
+    ghost may_give = { (union_row T.Integer.own L.Draw R.Draw).may_give };
 
     fn draw(&mut self) -> Option<RangeInclusive<T>> {
         self.next()

@@ -18,7 +18,7 @@ use Rattle.rsb_streams.specs.Lookahead.{at_side, undrawn_input, DrawsFew, Input,
 use Rattle.rsb_streams.specs.RunCount.{GivesFewerRunsThanBoth, GivesOneRunMoreAtMost, GivesRunsOfBothAtMost, HasAtMost}
 use Rattle.rsb_streams.specs.StreamLaws.{runs-exist, settled_le, settled_lt}
 use Rattle.rsb_streams.specs.Stream.{Outcomes, ◌⊆◌, joined_runs, just, runs_by, runs_by_two}
-use Rattle.rsb_streams.specs.Union.{union as union_of, union_inputs, UnitesUndrawn}
+use Rattle.rsb_streams.specs.Union.{union_row, union_inputs, UnitesUndrawn}
 use Rattle.rsb_streams.specs.declared.draw.Draw.{Ghosts as Stream}
 use Rattle.rsb_streams.specs.declared.operation_results.union.Union.{Union}
 use Rattle.rsb_streams.proofs.lemmas.lookahead.EachCall.{from-one}
@@ -294,7 +294,7 @@ looks-undrawn answer may_give before now new looks = record {
 pub first-ahead : {T N L R : Type 0} (integer : Elements T N) (left : Stream L T N)
     (right : Stream R T N) (one : L) (other : R) (s t : Union T L R)
     (item : Option (RangeInclusive T)) → UnitesUndrawn integer left right one other s.iter
-    → (union_of integer left right).draw_gives s item t
+    → (union_row integer left right).draw_gives s item t
     → IfSome item (λ answer. (from : Side) × LooksAheadOfAll (interval_of integer.rank answer)
     (λ side. undrawn_input (at_side (left.may_give one) (right.may_give other) side))
     (union_inputs integer left right from t))
@@ -329,7 +329,7 @@ pub first-few : {T N L R : Type 0} (integer : Elements T N) (left : Stream L T N
     (right : Stream R T N) (one : L) (other : R) (s t : Union T L R)
     (item : Option (RangeInclusive T)) (side : Side)
     → UnitesUndrawn integer left right one other s.iter
-    → (union_of integer left right).draw_gives s item t
+    → (union_row integer left right).draw_gives s item t
     → IfSome item (λ answer. DrawsFew (interval_of integer.rank answer)
     (at_side (left.may_give one) (right.may_give other) side)
     (union_inputs integer left right side t side).undrawn)
