@@ -9,9 +9,11 @@ ghost use Rattle.address_lists.specs.Pairs.{MayJoin, spans_of};
 
 mod joining;
 mod ranges;
+mod searching;
 
 use crate::blocks::Address;
-use crate::set::joining::{any_has, in_order, joins};
+use crate::set::joining::{in_order, joins};
+use crate::set::searching::any_has;
 use range_set_blaze::DrawDisjoint;
 pub use ranges::AddressRanges;
 use std::alloc::{AllocError, Allocator, Global};
@@ -94,7 +96,7 @@ impl<T: Address, A: Allocator> AddressSet<T, A> {
         self.ranges().members_len()
     }
 
-    /// Returns whether the set has an address. It looks at the runs one by one.
+    /// Returns whether the set has an address.
     pub fn contains(&self, address: T) -> bool
         ensures { result ≡ members self.now (T.rank address) }
     {

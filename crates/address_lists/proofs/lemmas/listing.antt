@@ -7,5 +7,6 @@ pub mod LineEnds
 pub mod OneSelection
 pub mod Pairs
 pub mod Reading
+pub mod Searched
 pub mod Selected
 pub mod WrittenLines

@@ -1,8 +1,7 @@
 //! Pairs of addresses, in order and joined.
 
 ghost use Rattle.std.specs.Prelude.{◌≡◌, ◌<◌, nat_le};
-ghost use Rattle.range_set_blaze.specs.Runs.{covers, members};
-ghost use Rattle.address_lists.specs.Pairs.{MayJoin, span_of, spans_of};
+ghost use Rattle.address_lists.specs.Pairs.{MayJoin};
 
 use crate::blocks::Address;
 
@@ -31,24 +30,4 @@ pub(crate) fn joins<T: Address>(next: &mut (T, T), last: &mut (T, T)) -> bool
         last.1 = next.1;
     }
     true
-}
-
-/// Returns whether an address is in one of some runs.
-pub(crate) fn any_has<T: Address>(runs: &[(T, T)], address: T) -> bool
-    ensures { result ≡ members (spans_of T.rank runs.now) (T.rank address) }
-{
-    for run in runs {
-        if has(run, address) {
-            return true;
-        }
-    }
-    false
-}
-
-// Returns whether an address is in a run.
-fn has<T: Address>(run: &(T, T), address: T) -> bool
-    ensures { result ≡ covers (span_of T.rank run.now) (T.rank address) }
-{
-    let number = address.number();
-    run.0.number() <= number && number <= run.1.number()
 }

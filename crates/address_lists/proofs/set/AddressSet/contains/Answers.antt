@@ -3,6 +3,10 @@ use Rattle.range_set_blaze.specs.Runs.{members}
 use Rattle.address_lists.specs.Pairs.{spans_of}
 use Rattle.address_lists.proofs.set.AddressSet.contains.Goals as goal
 
+-- The runs are those of a set.
+pub any_has-requires : goal.any_has-requires
+any_has-requires g c = rw (c.deref.ensures.value) c.self.invariant
+
 pub returns : goal.returns
 returns g c =
     let rank = g.T.Integer.rank in
