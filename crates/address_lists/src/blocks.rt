@@ -133,6 +133,3 @@ pub fn set_blocks<T: Address + 'static, A: Allocator, B: Allocator>(
 {
     blocks_of(alloc, set.ranges())
 }
-
-#[cfg(test)]
-mod tests;

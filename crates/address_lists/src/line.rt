@@ -97,6 +97,3 @@ fn comment(line: &[u8]) -> Option<usize>
 {
     line.iter().position(|byte| *byte == b'#' || *byte == b';')
 }
-
-#[cfg(test)]
-mod tests;

@@ -63,6 +63,3 @@ pub fn read_list<A: Allocator + Copy, R: BufRead>(
     }
     Err(too_many_lines())
 }
-
-#[cfg(test)]
-pub(crate) mod tests;

@@ -109,6 +109,3 @@ fn collected<T: Address, I: DrawDisjoint<T>, A: Allocator>(
         Err(error) => Err(error),
     }
 }
-
-#[cfg(test)]
-mod tests;

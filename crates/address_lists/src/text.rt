@@ -85,6 +85,3 @@ pub fn v6_range_text<A: Allocator>(
     let last = Ipv6Addr::from_bits(last);
     format!(in alloc; "{first}-{last}")
 }
-
-#[cfg(test)]
-mod tests;

@@ -1,6 +1,12 @@
-//! Tests of lists of addresses whose allocations fail, and of long lists.
+//! Tests of lists of addresses, with only the public names of the libraries.
 #![tactic(auto)]
 
+#[cfg(test)]
+mod blocks;
+#[cfg(test)]
+mod lines;
+#[cfg(test)]
+mod lists;
 #[cfg(test)]
 mod long_lines;
 #[cfg(test)]
@@ -8,4 +14,10 @@ mod many_lines;
 #[cfg(test)]
 mod many_runs;
 #[cfg(test)]
+mod operations;
+#[cfg(test)]
 mod refusals;
+#[cfg(test)]
+mod sets;
+#[cfg(test)]
+mod text;

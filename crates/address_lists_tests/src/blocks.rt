@@ -1,6 +1,6 @@
 //! Blocks that were worked out by hand.
 
-use crate::blocks::{Address, Block, IntoBlocks, set_blocks};
+use address_lists::{Address, Block, Blocks, IntoBlocks, blocks_of, set_blocks};
 use range_set_blaze::RangeSetBlaze;
 use std::alloc::{AllocError, Global};
 use std::test::*;
@@ -18,7 +18,20 @@ fn are<T: Address>(blocks: &[Block<T>], wanted: &[(T, u32)]) -> bool {
     true
 }
 
-/// Returns whether the set of these ranges has these blocks.
+/// Returns the blocks of a set, by a loop over them.
+fn each_block<T: Address + 'static>(
+    alloc: Global,
+    set: &RangeSetBlaze<T>,
+) -> Result<Vec<Block<T>>, AllocError> {
+    let mut blocks = Vec::new(alloc);
+    for block in Blocks::new(set.ranges()) {
+        blocks.push(block)?;
+    }
+    Ok(blocks)
+}
+
+/// Returns whether the set of these ranges has these blocks: as a list, as the list of a stream, and
+/// one by one.
 fn has_blocks<T: Address + 'static>(
     alloc: Global,
     ranges: &[(T, T)],
@@ -28,8 +41,11 @@ fn has_blocks<T: Address + 'static>(
     for pair in ranges {
         set.ranges_insert(pair.0..=pair.1)?;
     }
-    let blocks = set_blocks(alloc, &set)?;
-    Ok(are(&blocks, wanted))
+    Ok(
+        are(&set_blocks(alloc, &set)?, wanted)
+            && are(&blocks_of(alloc, set.ranges())?, wanted)
+            && are(&each_block(alloc, &set)?, wanted),
+    )
 }
 
 /// Returns the number of blocks of a set, by a loop over them.
@@ -106,4 +122,21 @@ fn all_but_one_address_have_a_block_for_each_bit(rt: HostRuntime) -> Result<(), 
     others.remove(u32::MAX)?;
     assert_eq!(rt; block_count(&others), 32);
     Ok(())
+}
+
+/// Returns whether these are the number of bits of an address, and the number of the last one.
+fn has_numbers<T: Address>(bits: u32, last: u128) -> bool {
+    T::bits() == bits
+        && T::min_value().number() == 0
+        && T::max_value().number() == last
+        && T::from_number(T::min_value().number()) == T::min_value()
+        && T::from_number(T::max_value().number()) == T::max_value()
+}
+
+#[test]
+fn an_address_is_its_number(rt: HostRuntime) {
+    assert!(rt; has_numbers::<u32>(32, 0xffff_ffff));
+    assert!(rt; has_numbers::<u128>(128, u128::MAX));
+    assert!(rt; 7u32.number() == 7 && u32::from_number(7) == 7);
+    assert!(rt; 7u128.number() == 7 && u128::from_number(7) == 7);
 }

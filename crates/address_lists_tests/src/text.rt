@@ -1,6 +1,6 @@
 //! Addresses, and their texts.
 
-use super::{v4_block_text, v4_range_text, v4_text, v6_block_text, v6_range_text, v6_text};
+use address_lists::{v4_block_text, v4_range_text, v4_text, v6_block_text, v6_range_text, v6_text};
 use std::test::*;
 
 #[test]

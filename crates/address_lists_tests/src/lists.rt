@@ -1,24 +1,10 @@
 //! Lists, and what they select.
 
-use super::{ListFault, read_list};
-use crate::blocks::Address;
-use crate::set::AddressSet;
+use crate::sets::are;
+use address_lists::{ListFault, read_list};
 use std::alloc::Global;
 use std::io::{self, BufReader, ErrorKind, Read};
 use std::test::*;
-
-/// Returns whether the set has exactly these ranges.
-pub(crate) fn are<T: Address>(set: &AddressSet<T>, wanted: &[(T, T)]) -> bool {
-    if set.ranges_len() != wanted.len() {
-        return false;
-    }
-    for (range, pair) in set.ranges().zip(wanted) {
-        if range != (pair.0..=pair.1) {
-            return false;
-        }
-    }
-    true
-}
 
 /// Returns whether a list is read to its end, and selects exactly these addresses.
 fn selects(alloc: Global, text: &str, v4: &[(u32, u32)], v6: &[(u128, u128)]) -> bool {

@@ -1,9 +1,9 @@
 //! Lines, and what they mean.
 
-use super::{Line, parse_line};
+use address_lists::{Line, parse_line};
 use std::test::*;
 
-// Returns the first and the last address of a line of IPv4 addresses.
+/// Returns the first and the last address of a line of IPv4 addresses.
 fn v4(line: &str) -> Option<(u32, u32)> {
     match parse_line(line.as_bytes()) {
         Some(Line::V4(range)) => Some(range.into_inner()),
@@ -11,7 +11,7 @@ fn v4(line: &str) -> Option<(u32, u32)> {
     }
 }
 
-// Returns the first and the last address of a line of IPv6 addresses.
+/// Returns the first and the last address of a line of IPv6 addresses.
 fn v6(line: &str) -> Option<(u128, u128)> {
     match parse_line(line.as_bytes()) {
         Some(Line::V6(range)) => Some(range.into_inner()),
@@ -19,12 +19,12 @@ fn v6(line: &str) -> Option<(u128, u128)> {
     }
 }
 
-// Returns whether the line is good and gives no address.
+/// Returns whether the line is good and gives no address.
 fn is_nothing(line: &str) -> bool {
     matches!(parse_line(line.as_bytes()), Some(Line::Nothing))
 }
 
-// Returns whether the line is bad.
+/// Returns whether the line is bad.
 fn is_bad(line: &str) -> bool {
     parse_line(line.as_bytes()).is_none()
 }
@@ -132,7 +132,7 @@ fn ipv6_lines_have_the_same_forms(rt: HostRuntime) {
     }
 }
 
-// 2001:db8::8:800:200c:417a, from RFC 4291.
+/// 2001:db8::8:800:200c:417a, from RFC 4291.
 const TYPICAL: u128 = 0x2001_0db8_0000_0000_0008_0800_200c_417a;
 
 #[test]
