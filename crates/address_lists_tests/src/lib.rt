@@ -4,6 +4,8 @@
 #[cfg(test)]
 mod blocks;
 #[cfg(test)]
+mod laws;
+#[cfg(test)]
 mod lines;
 #[cfg(test)]
 mod lists;
@@ -12,11 +14,15 @@ mod long_lines;
 #[cfg(test)]
 mod many_lines;
 #[cfg(test)]
+mod many_lists;
+#[cfg(test)]
 mod many_runs;
 #[cfg(test)]
 mod operations;
 #[cfg(test)]
 mod refusals;
+#[cfg(test)]
+mod selections;
 #[cfg(test)]
 mod sets;
 #[cfg(test)]

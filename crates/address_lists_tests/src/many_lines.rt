@@ -1,6 +1,7 @@
 //! Lists of 70,000 lines, more than 16 bits can count.
 
-use crate::many_runs::{has_runs, selects};
+use crate::many_runs::of_each_eight;
+use crate::operations::is_selected;
 use address_lists::{ListFault, read_list};
 use std::alloc::Global;
 use std::io::{self, Write};
@@ -32,8 +33,8 @@ fn seventy_thousand_lines_are_read(rt: HostRuntime) -> Result<(), Fail> {
     let text = long_text(rt.alloc())?;
     let mut input = text.as_slice();
     let list = read_list(rt.alloc(), &mut input)?;
-    assert!(rt; has_runs(&list, 35_000));
-    assert!(rt; selects(rt.alloc(), &list, 279_997, &[0, 1, 2])?);
+    let wanted = of_each_eight(rt.alloc(), 35_000, &[(0, 2)])?;
+    assert!(rt; is_selected(rt.alloc(), &list, &wanted)?);
     assert!(rt; list.v4.len() == 105_000);
     assert!(rt; list.v4.contains(279_994) && !list.v4.contains(279_995));
     assert!(rt; list.v6.contains(279_994) && !list.v6.contains(279_995));

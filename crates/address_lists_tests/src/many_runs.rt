@@ -1,96 +1,163 @@
 //! Operations on lists of 70,000 runs of each family, more than 16 bits can count, and the blocks
 //! of their sets. No call gives up at a size.
 
-use address_lists::{AddressList, AddressSet, Block, Operation, blocks_of, combine, set_blocks};
-use range_set_blaze::RangeSetBlaze;
+use crate::operations::v6;
+use crate::sets::set_of;
+use crate::{operations, selections};
+use address_lists::{AddressList, Block, Operation, blocks_of, set_blocks};
+use range_set_blaze::{RangeSetBlaze, UIntPlusOne};
 use std::alloc::{AllocError, Global};
 use std::test::*;
 
+/// Adds some parts of the eight addresses that start at `first`.
+fn push_parts(
+    ranges: &mut Vec<(u32, u32)>,
+    first: u32,
+    parts: &[(u32, u32)],
+) -> Result<(), AllocError> {
+    for (start, end) in parts {
+        ranges.push((first.saturating_add(*start), first.saturating_add(*end)))?;
+    }
+    Ok(())
+}
+
+/// Returns these parts of each eight addresses, from 0 up to the given number of eights.
+pub(crate) fn of_each_eight(
+    alloc: Global,
+    eights: u32,
+    parts: &[(u32, u32)],
+) -> Result<Vec<(u32, u32)>, AllocError> {
+    let mut ranges = Vec::new(alloc);
+    for place in 0..eights {
+        push_parts(&mut ranges, place.saturating_mul(8), parts)?;
+    }
+    Ok(ranges)
+}
+
 /// Returns a list of 70,000 runs of each family. The runs start at `first` and at every eighth
 /// address after it, and each has three addresses.
-fn many_runs(alloc: Global, first: u32) -> Result<AddressList, AllocError> {
-    let (mut v4, mut v6) = (RangeSetBlaze::new(alloc), RangeSetBlaze::new(alloc));
-    for place in 0..70_000u32 {
-        let start = first.saturating_add(place.saturating_mul(8));
-        let end = start.saturating_add(2);
-        v4.ranges_insert(start..=end)?;
-        v6.ranges_insert(u128::from(start)..=u128::from(end))?;
-    }
-    Ok(AddressList {
-        v4: AddressSet::from_ranges(alloc, v4.ranges())?,
-        v6: AddressSet::from_ranges(alloc, v6.ranges())?,
-    })
+fn many_runs(alloc: Global, first: u32) -> Result<AddressList, Fail> {
+    let runs = of_each_eight(alloc, 70_000, &[(first, first.saturating_add(2))])?;
+    let v4 = set_of(alloc, &runs)?;
+    let v6 = set_of(alloc, &v6(alloc, &runs)?)?;
+    Ok(AddressList { v4, v6 })
 }
 
-/// Whether a list has this number of runs in each family.
-pub(crate) fn has_runs(list: &AddressList, count: usize) -> bool {
-    list.v4.ranges_len() == count && list.v6.ranges_len() == count
+/// Returns the list of the ranges that start at 0 and the list of those that start at 2.
+fn two_lists(alloc: Global) -> Result<[AddressList; 2], Fail> {
+    Ok([many_runs(alloc, 0)?, many_runs(alloc, 2)?])
 }
 
-/// Whether each eleventh address up to an end is selected exactly if the remainder of its division
-/// by 8 is one of these.
-pub(crate) fn selects(
-    alloc: Global,
-    list: &AddressList,
-    end: u32,
-    remainders: &[u32],
-) -> Result<bool, AllocError> {
-    let v4 = RangeSetBlaze::from_sorted_disjoint(alloc, list.v4.ranges())?;
-    let v6 = RangeSetBlaze::from_sorted_disjoint(alloc, list.v6.ranges())?;
-    for number in (0..end).step_by(11) {
-        let wanted = remainders.contains(&(number % 8));
-        if v4.contains(number) != wanted || v6.contains(u128::from(number)) != wanted {
-            return Ok(false);
-        }
-    }
-    Ok(true)
-}
+/// An operation on the two lists, and the parts of each eight addresses that it selects.
+type Row = (Operation, &'static [(u32, u32)]);
 
-/// An operation on the list of the ranges that start at 0 and the list of those that start at 2,
-/// the number of runs that it selects in each family, and which of each eight addresses.
-type Row = (Operation, usize, &'static [u32]);
-
-static ROWS: [Row; 5] = [
-    (Operation::Union, 70_000, &[0, 1, 2, 3, 4]),
-    (Operation::Common, 70_000, &[2]),
-    (Operation::Except, 70_000, &[0, 1]),
-    (Operation::Odd, 140_000, &[0, 1, 3, 4]),
-    (Operation::Complement, 70_000, &[5, 6, 7]),
+static ROWS: [Row; 4] = [
+    (Operation::Union, &[(0, 4)]),
+    (Operation::Common, &[(2, 2)]),
+    (Operation::Except, &[(0, 1)]),
+    (Operation::Odd, &[(0, 1), (3, 4)]),
 ];
 
-static COUNTED: [Row; 4] = [
-    (Operation::AtLeast(0), 1, &[0, 1, 2, 3, 4, 5, 6, 7]),
-    (Operation::AtLeast(1), 70_000, &[0, 1, 2, 3, 4]),
-    (Operation::AtLeast(2), 70_000, &[2]),
-    (Operation::AtLeast(3), 0, &[]),
+static COUNTED: [Row; 3] = [
+    (Operation::AtLeast(1), &[(0, 4)]),
+    (Operation::AtLeast(2), &[(2, 2)]),
+    (Operation::AtLeast(3), &[]),
 ];
 
-/// Whether an operation on lists selects what its row says.
-fn combines(alloc: Global, lists: &[AddressList], row: &Row) -> Result<bool, AllocError> {
-    let list = combine(alloc, row.0, lists)?;
-    Ok(has_runs(&list, row.1) && selects(alloc, &list, 559_997, row.2)?)
-}
-
-/// Returns the first operation that does not select what its row says.
-fn first_wrong(alloc: Global, rows: &[Row]) -> Result<Option<Operation>, AllocError> {
-    let lists = [many_runs(alloc, 0)?, many_runs(alloc, 2)?];
-    for row in rows {
-        if !combines(alloc, &lists, row)? {
-            return Ok(Some(row.0));
-        }
-    }
-    Ok(None)
+/// Returns the ranges that an operation on the two lists selects.
+fn wanted(alloc: Global, row: &Row) -> Result<Vec<(u32, u32)>, AllocError> {
+    of_each_eight(alloc, 70_000, row.1)
 }
 
 #[test]
 fn operations_on_many_runs_select_each_of_them(rt: HostRuntime) -> Result<(), Fail> {
-    assert_eq!(rt; first_wrong(rt.alloc(), &ROWS)?, None);
+    let lists = two_lists(rt.alloc())?;
+    for row in &ROWS {
+        let wanted = wanted(rt.alloc(), row)?;
+        assert!(rt;
+            operations::selects(rt.alloc(), row.0, &lists, &wanted)?,
+            "at {:?}",
+            row.0
+        );
+    }
+    Ok(())
+}
+
+#[test]
+fn streams_of_many_runs_select_each_of_them(rt: HostRuntime) -> Result<(), Fail> {
+    let lists = two_lists(rt.alloc())?;
+    for row in &ROWS {
+        let wanted = wanted(rt.alloc(), row)?;
+        assert!(rt;
+            selections::selects(rt.alloc(), row.0, &lists, &wanted)?,
+            "at {:?}",
+            row.0
+        );
+    }
     Ok(())
 }
 
 #[test]
 fn runs_of_both_lists_are_counted_twice(rt: HostRuntime) -> Result<(), Fail> {
-    assert_eq!(rt; first_wrong(rt.alloc(), &COUNTED)?, None);
+    let lists = two_lists(rt.alloc())?;
+    for row in &COUNTED {
+        let wanted = wanted(rt.alloc(), row)?;
+        assert!(rt;
+            operations::selects(rt.alloc(), row.0, &lists, &wanted)?,
+            "at {:?}",
+            row.0
+        );
+    }
+    Ok(())
+}
+
+#[test]
+fn runs_of_both_streams_are_counted_twice(rt: HostRuntime) -> Result<(), Fail> {
+    let lists = two_lists(rt.alloc())?;
+    for row in &COUNTED {
+        let wanted = wanted(rt.alloc(), row)?;
+        assert!(rt;
+            selections::selects(rt.alloc(), row.0, &lists, &wanted)?,
+            "at {:?}",
+            row.0
+        );
+    }
+    Ok(())
+}
+
+/// Returns what neither of the two lists has: the end of each eight addresses, and all addresses
+/// after the last run.
+fn outside(alloc: Global) -> Result<Vec<(u32, u32)>, AllocError> {
+    let mut ranges = of_each_eight(alloc, 69_999, &[(5, 7)])?;
+    ranges.push((559_997, u32::MAX))?;
+    Ok(ranges)
+}
+
+#[test]
+fn what_no_list_has_reaches_the_last_address(rt: HostRuntime) -> Result<(), Fail> {
+    let lists = two_lists(rt.alloc())?;
+    let (complement, wanted) = (Operation::Complement, outside(rt.alloc())?);
+    assert!(rt; operations::selects(rt.alloc(), complement, &lists, &wanted)?);
+    assert!(rt; selections::selects(rt.alloc(), complement, &lists, &wanted)?);
+    Ok(())
+}
+
+#[test]
+fn at_least_none_of_the_lists_have_every_address(rt: HostRuntime) -> Result<(), Fail> {
+    let lists = two_lists(rt.alloc())?;
+    let (at_least, every) = (Operation::AtLeast(0), [(0, u32::MAX)]);
+    assert!(rt; operations::selects(rt.alloc(), at_least, &lists, &every)?);
+    assert!(rt; selections::selects(rt.alloc(), at_least, &lists, &every)?);
+    Ok(())
+}
+
+#[test]
+fn a_set_has_the_addresses_of_many_runs(rt: HostRuntime) -> Result<(), Fail> {
+    let list = many_runs(rt.alloc(), 0)?;
+    assert!(rt; list.v4.ranges_len() == 70_000 && list.v6.ranges_len() == 70_000);
+    assert!(rt; list.v4.len() == 210_000 && list.v6.len() == UIntPlusOne::UInt(210_000));
+    assert!(rt; list.v4.contains(559_994) && !list.v4.contains(559_995));
+    assert!(rt; list.v6.contains(559_994) && !list.v6.contains(559_995));
     Ok(())
 }
 
