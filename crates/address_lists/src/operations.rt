@@ -11,8 +11,8 @@ ghost use Rattle.address_lists.specs.Selection.{GiveEach};
 use crate::blocks::Address;
 use crate::list::AddressList;
 use crate::selection::{at_least, common, complement, except, odd, union, v4_ranges, v6_ranges};
-use crate::set::{AddressRanges, AddressSet};
-use range_set_blaze::{Draw, DrawDisjoint};
+use crate::set::AddressSet;
+use range_set_blaze::DrawDisjoint;
 use std::alloc::{AllocError, Allocator};
 
 /// What is selected from a number of lists. A list that is given twice counts twice.
@@ -47,50 +47,28 @@ pub fn combine<A: Allocator + Copy>(
 {
     let v4_streams = v4_ranges(alloc, lists)?;
     let v6_streams = v6_ranges(alloc, lists)?;
-    let v4 = v4_combined(alloc, operation, v4_streams)?;
-    let v6 = v6_combined(alloc, operation, v6_streams)?;
+    let v4 = combined(alloc, operation, v4_streams)?;
+    let v6 = combined(alloc, operation, v6_streams)?;
     Ok(AddressList { v4, v6 })
 }
 
-// Returns what an operation selects from ready streams of IPv4 addresses.
-fn v4_combined<'a, A: Allocator + Copy>(
+// Returns what an operation selects from ready streams of the addresses of one family.
+fn combined<T: Address, I: DrawDisjoint<T>, A: Allocator + Copy>(
     alloc: A,
     operation: Operation,
-    v4: Vec<AddressRanges<'a, u32>, A>,
-) -> Result<AddressSet<u32, A>, AllocError>
-    requires { All ⟦<AddressRanges<'a, u32> as Draw<u32>>⟧.can_draw v4.items }
-    ensures { (sets : List (List Interval))
-        → GiveEach ⟦<AddressRanges<'a, u32> as Draw<u32>>⟧.may_give v4.entry.items sets
-        → IfOk result (λ set. IsMadeOf (2 ^ 32) (selected_by operation) sets set) }
+    streams: Vec<I, A>,
+) -> Result<AddressSet<T, A>, AllocError>
+    requires { All I.can_draw streams.items }
+    ensures { (sets : List (List Interval)) → GiveEach I.may_give streams.items sets
+        → IfOk result (λ set. IsMadeOf T.value_count (selected_by operation) sets set) }
 {
     match operation {
-        Operation::Union => collected(alloc, union(alloc, v4)),
-        Operation::Common => collected(alloc, common(alloc, v4)),
-        Operation::Except => collected(alloc, except(alloc, v4)),
-        Operation::Odd => collected(alloc, odd(alloc, v4)),
-        Operation::AtLeast(k) => collected(alloc, at_least(alloc, v4, k)),
-        Operation::Complement => collected(alloc, complement(alloc, v4)),
-    }
-}
-
-// Returns what an operation selects from ready streams of IPv6 addresses.
-fn v6_combined<'a, A: Allocator + Copy>(
-    alloc: A,
-    operation: Operation,
-    v6: Vec<AddressRanges<'a, u128>, A>,
-) -> Result<AddressSet<u128, A>, AllocError>
-    requires { All ⟦<AddressRanges<'a, u128> as Draw<u128>>⟧.can_draw v6.items }
-    ensures { (sets : List (List Interval))
-        → GiveEach ⟦<AddressRanges<'a, u128> as Draw<u128>>⟧.may_give v6.entry.items sets
-        → IfOk result (λ set. IsMadeOf (2 ^ 128) (selected_by operation) sets set) }
-{
-    match operation {
-        Operation::Union => collected(alloc, union(alloc, v6)),
-        Operation::Common => collected(alloc, common(alloc, v6)),
-        Operation::Except => collected(alloc, except(alloc, v6)),
-        Operation::Odd => collected(alloc, odd(alloc, v6)),
-        Operation::AtLeast(k) => collected(alloc, at_least(alloc, v6, k)),
-        Operation::Complement => collected(alloc, complement(alloc, v6)),
+        Operation::Union => collected(alloc, union(alloc, streams)),
+        Operation::Common => collected(alloc, common(alloc, streams)),
+        Operation::Except => collected(alloc, except(alloc, streams)),
+        Operation::Odd => collected(alloc, odd(alloc, streams)),
+        Operation::AtLeast(k) => collected(alloc, at_least(alloc, streams, k)),
+        Operation::Complement => collected(alloc, complement(alloc, streams)),
     }
 }
 
