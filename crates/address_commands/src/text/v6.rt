@@ -102,15 +102,14 @@ fn lay_hex(page: &mut Page, segment: u16)
     lay(page, &[hex_digit(segment / 0x1000), second, third, last]);
 }
 
+// The hexadecimal digits.
+const DIGITS: [u8; 16] = *b"0123456789abcdef";
+
 // Returns a hexadecimal digit.
 #[inline(always)]
 fn hex_digit(digit: u16) -> u8
     requires { digit < 16 }
     ensures { result ≡ digit_char digit }
 {
-    if digit < 10 {
-        b'0' + digit as u8
-    } else {
-        b'a' + (digit - 10) as u8
-    }
+    DIGITS[digit as usize]
 }

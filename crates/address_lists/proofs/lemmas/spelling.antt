@@ -1,5 +1,6 @@
 pub mod Addresses
 pub mod Around
+pub mod Below
 pub mod Blocks
 pub mod Bytes
 pub mod Groups

@@ -10,7 +10,7 @@ ghost use Rattle.address_lists.specs.Plain.{BeginsWith};
 
 use crate::blocks::Address;
 use crate::line::groups::{elided, read_groups};
-use crate::line::octets::{after, octet};
+use crate::line::octets::{after, after_at, octet_at};
 use std::net::{Ipv4Addr, Ipv6Addr};
 
 /// A family of addresses.
@@ -50,13 +50,17 @@ impl Family for u32 {
         }
     }
 
+    // An address is at most 15 bytes long. Past that check no place is out of range.
     #[inline(always)]
     fn read(bytes: &[u8]) -> Option<(u32, &[u8])> {
-        let (a, rest) = octet(bytes)?;
-        let (b, rest) = octet(after(rest, b'.')?)?;
-        let (c, rest) = octet(after(rest, b'.')?)?;
-        let (d, rest) = octet(after(rest, b'.')?)?;
-        Some((Ipv4Addr::new(a, b, c, d).to_bits(), rest))
+        if bytes.len() < 16 {
+            return None;
+        }
+        let (a, end) = octet_at(bytes, 0)?;
+        let (b, end) = octet_at(bytes, after_at(bytes, end, b'.')?)?;
+        let (c, end) = octet_at(bytes, after_at(bytes, end, b'.')?)?;
+        let (d, end) = octet_at(bytes, after_at(bytes, end, b'.')?)?;
+        Some((Ipv4Addr::new(a, b, c, d).to_bits(), &bytes[end..]))
     }
 
     ghost one_address = { one_v4 };

@@ -1,6 +1,7 @@
 //! Groups of hexadecimal digits at the front of bytes, with colons between them.
 
 ghost use Rattle.std.specs.Prelude.{◌≡◌, ◌+◌, ◌*◌, ◌-◌, ◌^◌, ◌<◌, IfSome};
+ghost use Rattle.std.specs.Char.{digit_value};
 ghost use Rattle.std.specs.Net.Grammar.{IsGroup};
 ghost use Rattle.address_lists.specs.Groups.{AreGroups, BeginsWithDigit, BeginsWithGroup};
 ghost use Rattle.address_lists.specs.Plain.{BeginsWith};
@@ -97,6 +98,37 @@ fn hex_digit(bytes: &[u8]) -> Option<(u32, &[u8])>
     ensures { IfSome result (λ read. BeginsWithDigit bytes.now read.0 read.1.now) }
 {
     let (first, rest) = bytes.split_first()?;
-    let value = char::from(*first).to_digit(16)?;
-    Some((value, rest))
+    let value = hex_value(*first);
+    if value < 16 {
+        Some((u32::from(value), rest))
+    } else {
+        None
+    }
+}
+
+// The value of each byte as a hexadecimal digit, or 255.
+const HEX_VALUES: [u8; 256] = [
+    255, 255, 255, 255, 255, 255, 255, 255, 255, 255, 255, 255, 255, 255, 255, 255, 255, 255, 255,
+    255, 255, 255, 255, 255, 255, 255, 255, 255, 255, 255, 255, 255, 255, 255, 255, 255, 255, 255,
+    255, 255, 255, 255, 255, 255, 255, 255, 255, 255, 0, 1, 2, 3, 4, 5, 6, 7, 8, 9, 255, 255, 255,
+    255, 255, 255, 255, 10, 11, 12, 13, 14, 15, 255, 255, 255, 255, 255, 255, 255, 255, 255, 255,
+    255, 255, 255, 255, 255, 255, 255, 255, 255, 255, 255, 255, 255, 255, 255, 255, 10, 11, 12, 13,
+    14, 15, 255, 255, 255, 255, 255, 255, 255, 255, 255, 255, 255, 255, 255, 255, 255, 255, 255,
+    255, 255, 255, 255, 255, 255, 255, 255, 255, 255, 255, 255, 255, 255, 255, 255, 255, 255, 255,
+    255, 255, 255, 255, 255, 255, 255, 255, 255, 255, 255, 255, 255, 255, 255, 255, 255, 255, 255,
+    255, 255, 255, 255, 255, 255, 255, 255, 255, 255, 255, 255, 255, 255, 255, 255, 255, 255, 255,
+    255, 255, 255, 255, 255, 255, 255, 255, 255, 255, 255, 255, 255, 255, 255, 255, 255, 255, 255,
+    255, 255, 255, 255, 255, 255, 255, 255, 255, 255, 255, 255, 255, 255, 255, 255, 255, 255, 255,
+    255, 255, 255, 255, 255, 255, 255, 255, 255, 255, 255, 255, 255, 255, 255, 255, 255, 255, 255,
+    255, 255, 255, 255, 255, 255, 255, 255, 255, 255, 255, 255, 255, 255, 255, 255, 255, 255, 255,
+    255, 255, 255,
+];
+
+// Returns the value of a hexadecimal digit, or 255 for another byte. A test for a letter would go
+// either way about as often.
+#[inline(always)]
+fn hex_value(byte: u8) -> u8
+    ensures { result < 16 → digit_value byte ≡ result }
+{
+    HEX_VALUES[byte as usize]
 }

@@ -1,6 +1,6 @@
 //! Decimal numbers at the front of bytes, read without a second look at any byte.
 
-ghost use Rattle.std.specs.Prelude.{◌≡◌, ◌+◌, ◌<◌, ◌++◌, ◌∷◌, IfSome, decimal};
+ghost use Rattle.std.specs.Prelude.{◌≡◌, ℕ, ◌+◌, ◌<◌, ◌≤◌, ◌++◌, ◌∷◌, IfSome, List, cond, decimal, drop, length};
 
 /// Reads the byte at the front of bytes. Returns the bytes after it, or `None` if there is another
 /// byte or none.
@@ -14,42 +14,90 @@ pub(crate) fn after(bytes: &[u8], byte: u8) -> Option<&[u8]>
     }
 }
 
+/// Returns the place after a byte at a place, or `None` if there is another byte.
+#[inline(always)]
+pub(crate) fn after_at(bytes: &[u8], at: usize, byte: u8) -> Option<usize>
+    requires { at < length bytes.now }
+    ensures place { IfSome result (λ next. next ≡ at + 1) }
+    ensures front { IfSome result (λ next. drop at bytes.now ≡ byte ∷ drop next bytes.now) }
+{
+    if bytes[at] != byte {
+        return None;
+    }
+    Some(at + 1)
+}
+
 /// Reads a number below 256 in decimal, without a leading zero, at the front of bytes. Returns the
-/// number and the bytes after it.
+/// number and the bytes after it. `None` says nothing if there are fewer than three bytes.
 #[inline(always)]
 pub(crate) fn octet(bytes: &[u8]) -> Option<(u8, &[u8])>
     ensures fits { IfSome result (λ read. read.0 < 256) }
     ensures front { IfSome result (λ read. bytes.now ≡ decimal read.0 ++ read.1.now) }
 {
-    let (first, after_first) = digit(bytes)?;
-    let Some((second, after_second)) = digit(after_first) else {
-        return Some((first, after_first));
-    };
-    if first == 0 {
+    if bytes.len() < 3 {
         return None;
     }
-    let two = first * 10 + second;
-    let Some((third, after_third)) = digit(after_second) else {
-        return Some((two, after_second));
-    };
-    let three = u16::from(two) * 10 + u16::from(third);
-    if three > 255 {
-        return None;
-    }
-    Some((three as u8, after_third))
+    let (number, end) = octet_at(bytes, 0)?;
+    Some((number, &bytes[end..]))
 }
 
-// Reads a decimal digit at the front of bytes. Returns its value and the bytes after it.
+/// Reads a number below 256 in decimal, without a leading zero, from a place on. Returns the number
+/// and the place after it.
 #[inline(always)]
-fn digit(bytes: &[u8]) -> Option<(u8, &[u8])>
-    ensures below { IfSome result (λ read. read.0 < 10) }
-    ensures front { IfSome result (λ read. bytes.now ≡ (48 + read.0) ∷ read.1.now) }
+pub(crate) fn octet_at(bytes: &[u8], start: usize) -> Option<(u8, usize)>
+    requires { start + 3 ≤ length bytes.now }
+    ensures fits { IfSome result (λ read. read.0 < 256) }
+    ensures end { IfSome result (λ read. read.1 ≤ start + 3) }
+    ensures front { IfSome result (λ read.
+        drop start bytes.now ≡ decimal read.0 ++ drop read.1 bytes.now) }
 {
-    let (first, rest) = bytes.split_first()?;
-    let value = first.wrapping_sub(b'0');
-    if value < 10 {
-        Some((value, rest))
-    } else {
-        None
+    let (number, count) = octet_of_three(bytes[start], bytes[start + 1], bytes[start + 2])?;
+    Some((number, start + count))
+}
+
+// Reads a number below 256 at the front of three bytes. Returns the number and how many digits it
+// has. Nothing branches on how many they are, which a processor can't foresee.
+#[inline(always)]
+fn octet_of_three(first: u8, second: u8, third: u8) -> Option<(u8, usize)>
+    ensures fits { IfSome result (λ read. read.0 < 256) }
+    ensures within { IfSome result (λ read. read.1 ≤ 3) }
+    ensures front { (rest : List ℕ) → IfSome result (λ read. first ∷ second ∷ third ∷ rest
+        ≡ decimal read.0 ++ drop read.1 (first ∷ second ∷ third ∷ rest)) }
+{
+    let one = digit(first);
+    let next = digit(second);
+    let last = digit(third);
+    if one > 9 {
+        return None;
     }
+    let two = one * 10 + next;
+    let three = two * 10 + last;
+    let has_two = next < 10;
+    let has_three = has_two & (last < 10);
+    let number = either(has_three, three, either(has_two, two, one));
+    if number > 255 {
+        return None;
+    }
+    if has_two & (one == 0) {
+        return None;
+    }
+    let count = 1 + usize::from(has_two) + usize::from(has_three);
+    Some((number as u8, count))
+}
+
+// Returns the value of a decimal digit, or more than 9 for another byte.
+#[inline(always)]
+fn digit(byte: u8) -> u32
+    ensures fits { result < 256 }
+    ensures value { result < 10 → byte ≡ 48 + result }
+{
+    u32::from(byte ^ b'0')
+}
+
+// Returns one of two numbers.
+#[inline(always)]
+fn either(takes_first: bool, first: u32, second: u32) -> u32
+    ensures { result ≡ cond takes_first first second }
+{
+    if takes_first { first } else { second }
 }

@@ -83,6 +83,6 @@ pub(crate) fn block_around<F: Family>(address: F, length: u32) -> RangeInclusive
         return F::min_value()..=F::max_value();
     }
     let size = 1u128 << (F::bits() - length);
-    let first = number - number % size;
+    let first = number - (number & (size - 1));
     F::from_number(first)..=F::from_number(first + (size - 1))
 }

@@ -1,7 +1,8 @@
 -- Blocks of addresses fit their type.
 use Rattle.std.proofs.Common.{◌≡◌, ℕ, ◌+◌, ◌-◌, ◌*◌, ◌/◌, ◌%◌, ◌^◌, ◌<◌, ◌≤◌, ◌↔◌, ap, ◌∙◌, arith}
 use Rattle.std.proofs.Math.Nat.{mod-eq_of_lt}
-use Rattle.std.proofs.lemmas.Nat.{one_shl, pow-add, pow_below, pow_pos, shr_below, shr_split, mul-le, div-add-mod', div_below, le-div, mod_below}
+use Rattle.std.proofs.lemmas.Nat.{and_mask, one_shl, pow-add, pow_below, pow_pos, shr_below, shr_split, mul-le, div-add-mod', div_below, le-div, mod_below}
+use Rattle.std.specs.Int.Bits.{bit_and}
 use Rattle.address_lists.specs.AddressRange.{SharesBits, block_end, block_size, block_start}
 
 -- A block that does not have all addresses has fewer than the type.
@@ -73,6 +74,25 @@ last_fits width length number size within below is =
     let fits = block_fits width length number within below in
     let some = pow_pos (width - length) in
     rw is (omega (arith, fits, some))
+
+-- The bits of a number below a power of 2 are its remainder.
+pub low_bits : (number size bits : ℕ) → size ≡ 2 ^ bits
+    → bit_and number (size - 1) ≡ number % size
+low_bits number size bits is = rw is (and_mask number bits)
+
+-- A number without its low bits is the start of a block.
+pub masked_start : (width length address number size : ℕ) → number ≡ address
+    → size ≡ block_size width length
+    → number - bit_and number (size - 1) ≡ block_start width length address
+masked_start width length address number size same is =
+    rw (same, is) (ap (λ low. address - low) (and_mask address (width - length)))
+
+pub masked_end : (width length address number size : ℕ) → number ≡ address
+    → size ≡ block_size width length
+    → number - bit_and number (size - 1) + (size - 1) ≡ block_end width length address
+masked_end width length address number size same is =
+    ap (λ start. start + (size - 1)) (masked_start width length address number size same is)
+    ∙ ap (λ n. block_start width length address + (n - 1)) is
 
 -- If no bit is given, the block has all addresses.
 whole_size : (width length : ℕ) → length ≡ 0 → block_size width length ≡ 2 ^ width

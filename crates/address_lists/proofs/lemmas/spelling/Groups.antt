@@ -1,9 +1,10 @@
 -- Groups of hexadecimal digits are the segments of an address.
-use Rattle.std.proofs.Common.{◌≡◌, ◌∙◌, ℕ, zero, suc, ◌+◌, ◌-◌, ◌*◌, ◌/◌, ◌%◌, ◌^◌, ◌<◌, ◌≤◌, Bool, true, false, eqb, true≢false, List, [], ◌∷◌, ◌++◌, length, replicate, inl, inr, refl, sym, ap, append-nil, append_assoc, length-append, arith}
+use Rattle.std.proofs.Common.{◌≡◌, ◌∙◌, ℕ, zero, suc, ◌+◌, ◌-◌, ◌*◌, ◌/◌, ◌%◌, ◌^◌, ◌<◌, ◌≤◌, Bool, true, false, cond, eqb, nat_lt, true≢false, List, [], ◌∷◌, ◌++◌, get_or, length, replicate, inl, inr, refl, sym, ap, append-nil, append_assoc, length-append, arith}
 use Rattle.std.proofs.Math.Pow.{pow_mono}
 use Rattle.std.proofs.lemmas.Bool.{ne_eqb}
 use Rattle.std.proofs.lemmas.List.{length-replicate}
 use Rattle.std.proofs.lemmas.Nat.{pow-add, row_fits}
+use Rattle.std.specs.Char.{digit_value}
 use Rattle.std.specs.Int.{w128, from_be_bytes}
 use Rattle.std.specs.Net.Addr.{ipv6_bits, octets_of}
 use Rattle.std.specs.Net.Grammar.{IsGroup, IsGroups, IsGroupsAfter}
@@ -11,6 +12,26 @@ use Rattle.address_lists.specs.Address.{IsV6}
 use Rattle.address_lists.specs.Groups.{AreGroups, BeginsWithDigit, BeginsWithGroup, lead, segments_after}
 use Rattle.address_lists.specs.Plain.{BeginsWith}
 use Rattle.address_lists.specs.declared.line.groups.Groups.{Groups}
+use Rattle.address_lists.specs.declared.line.groups.TheConstants.{HEX_VALUES}
+use Rattle.address_lists.proofs.lemmas.spelling.Below.{passes_at, passes_below, when_small}
+
+-- ---- one digit
+
+-- Whether the table has the value of a byte as a hexadecimal digit, if it has one below 16.
+abbrev is_hex_read : ℕ → Bool
+is_hex_read byte = cond (nat_lt (get_or HEX_VALUES byte 0) 16)
+    (eqb (digit_value byte) (get_or HEX_VALUES byte 0)) true
+
+all_read : passes_below 256 is_hex_read ≡ true
+unfolding passes_below
+all_read = refl
+
+-- A byte below 16 in the table has the value that stands there.
+pub hex_read : (byte : ℕ) → byte < 256 → get_or HEX_VALUES byte 0 < 16
+    → digit_value byte ≡ get_or HEX_VALUES byte 0
+hex_read byte fits small =
+    when_small 16 (digit_value byte) (get_or HEX_VALUES byte 0)
+    (passes_at is_hex_read 256 all_read byte fits) small
 
 -- ---- one group
 

@@ -1,17 +1,20 @@
-use Rattle.std.proofs.Common.{refl}
+use Rattle.std.proofs.Common.{drop, refl}
+use Rattle.std.proofs.lemmas.List.{take_rest}
 use Rattle.std.specs.Net.Text.{dotted_text}
 use Rattle.address_lists.proofs.lemmas.spelling.Octets.{dotted}
 use Rattle.address_lists.proofs.line.family.U32Family.read.Goals as goal
 
 -- Four octets with dots between them are an address.
 pub returns : goal.returns
-returns c = record {
+returns c = rw take_rest (record {
   text = dotted_text c.in_ok-a.a c.in_ok-b.b c.in_ok-c.c c.in_ok-d.d;
-  parts = dotted c.args.bytes.now c.in_ok-a.rest.now c.in_ok-after.field-0.now c.in_ok-b.rest.now
-      c.in_ok-after-2.field-0.now c.in_ok-c.rest.now c.in_ok-after-3.field-0.now
-      c.in_ok-d.rest.now c.in_ok-a.a c.in_ok-b.b c.in_ok-c.c c.in_ok-d.d
-      c.in_ok-a.ensures.front c.in_ok-after.ensures c.in_ok-b.ensures.front
-      c.in_ok-after-2.ensures c.in_ok-c.ensures.front c.in_ok-after-3.ensures
+  parts = dotted c.args.bytes.now (drop c.in_ok-a.end c.args.bytes.now)
+      (drop c.in_ok-after_at.field-0 c.args.bytes.now) (drop c.in_ok-b.end c.args.bytes.now)
+      (drop c.in_ok-after_at-2.field-0 c.args.bytes.now) (drop c.in_ok-c.end c.args.bytes.now)
+      (drop c.in_ok-after_at-3.field-0 c.args.bytes.now) (drop c.in_ok-d.end c.args.bytes.now)
+      c.in_ok-a.a c.in_ok-b.b c.in_ok-c.c c.in_ok-d.d
+      c.in_ok-a.ensures.front c.in_ok-after_at.ensures.front c.in_ok-b.ensures.front
+      c.in_ok-after_at-2.ensures.front c.in_ok-c.ensures.front c.in_ok-after_at-3.ensures.front
       c.in_ok-d.ensures.front;
   written = (
     c.new.result,
@@ -31,4 +34,4 @@ returns c = record {
     },
     c.to_bits.ensures,
   );
-}
+})
