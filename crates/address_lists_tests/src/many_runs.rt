@@ -151,13 +151,25 @@ fn at_least_none_of_the_lists_have_every_address(rt: HostRuntime) -> Result<(), 
     Ok(())
 }
 
+/// Whether a list of many runs has the first three of each eight addresses, and no others. Only
+/// every 101st address is looked up.
+fn has_three_of_eight(list: &AddressList) -> bool {
+    for address in (0..560_000u32).step_by(101) {
+        let is_in = address % 8 < 3;
+        if list.v4.contains(address) != is_in || list.v6.contains(u128::from(address)) != is_in {
+            return false;
+        }
+    }
+    true
+}
+
 #[test]
 fn a_set_has_the_addresses_of_many_runs(rt: HostRuntime) -> Result<(), Fail> {
     let list = many_runs(rt.alloc(), 0)?;
     assert!(rt; list.v4.ranges_len() == 70_000 && list.v6.ranges_len() == 70_000);
     assert!(rt; list.v4.len() == 210_000 && list.v6.len() == UIntPlusOne::UInt(210_000));
+    assert!(rt; has_three_of_eight(&list));
     assert!(rt; list.v4.contains(559_994) && !list.v4.contains(559_995));
-    assert!(rt; list.v6.contains(559_994) && !list.v6.contains(559_995));
     Ok(())
 }
 

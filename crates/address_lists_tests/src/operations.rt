@@ -149,8 +149,8 @@ pub(crate) fn lists(alloc: Global, texts: &[&str]) -> Result<Vec<AddressList>, F
     Ok(lists)
 }
 
-/// Returns the IPv6 address that is as far from the first one of its family. An address of the
-/// upper half becomes the one that is as far from the last one.
+/// Returns the IPv6 address that is as far from the nearer end of its family as an IPv4 address is
+/// from that end of its own.
 fn as_v6(address: u32) -> u128 {
     if address <= LAST / 2 {
         return u128::from(address);
@@ -186,8 +186,7 @@ pub(crate) fn selects(
     is_selected(alloc, &combine(alloc, operation, lists)?, wanted)
 }
 
-/// Returns how many of the lists are the fewest from which an operation does not select what its
-/// row says.
+/// Returns the least number of lists from which an operation does not select what its row says.
 fn first_wrong(
     alloc: Global,
     lists: &[AddressList],

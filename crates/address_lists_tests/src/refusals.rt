@@ -59,7 +59,7 @@ impl Call {
     }
 }
 
-/// The calls of no row.
+/// All calls except those of the rows.
 static CALLS: [Call; 18] = [
     Call::V4Text,
     Call::V4BlockText,

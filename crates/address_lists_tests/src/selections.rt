@@ -51,8 +51,8 @@ pub(crate) fn selects(
     is_selected(alloc, &selected(alloc, operation, lists)?, wanted)
 }
 
-/// Returns how many of the lists are the fewest from whose streams an operation does not select
-/// what its row says.
+/// Returns the least number of lists from whose streams an operation does not select what its row
+/// says.
 fn first_wrong(
     alloc: Global,
     lists: &[AddressList],
