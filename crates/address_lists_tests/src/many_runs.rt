@@ -1,9 +1,8 @@
 //! Operations on lists of 70,000 runs of each family, more than 16 bits can count, and the blocks
 //! of their sets. No call gives up at a size.
 
-use crate::operations::v6;
+use crate::operations::{Way, selects, v6};
 use crate::sets::set_of;
-use crate::{operations, selections};
 use address_lists::{AddressList, Block, Operation, blocks_of, set_blocks};
 use range_set_blaze::{RangeSetBlaze, UIntPlusOne};
 use std::alloc::{AllocError, Global};
@@ -64,64 +63,43 @@ static COUNTED: [Row; 3] = [
     (Operation::AtLeast(3), &[]),
 ];
 
-/// Returns the ranges that an operation on the two lists selects.
-fn wanted(alloc: Global, row: &Row) -> Result<Vec<(u32, u32)>, AllocError> {
-    of_each_eight(alloc, 70_000, row.1)
+/// Returns the first operation that does not select from the two lists what its row says.
+fn first_wrong(alloc: Global, way: Way, rows: &[Row]) -> Result<Option<Operation>, Fail> {
+    let lists = two_lists(alloc)?;
+    for (operation, parts) in rows {
+        let wanted = of_each_eight(alloc, 70_000, parts)?;
+        if !selects(alloc, way, *operation, &lists, &wanted)? {
+            return Ok(Some(*operation));
+        }
+    }
+    Ok(None)
 }
 
 #[test]
 fn operations_on_many_runs_select_each_of_them(rt: HostRuntime) -> Result<(), Fail> {
-    let lists = two_lists(rt.alloc())?;
-    for row in &ROWS {
-        let wanted = wanted(rt.alloc(), row)?;
-        assert!(rt;
-            operations::selects(rt.alloc(), row.0, &lists, &wanted)?,
-            "at {:?}",
-            row.0
-        );
-    }
+    let wrong = first_wrong(rt.alloc(), Way::Combine, &ROWS)?;
+    assert!(rt; wrong.is_none(), "at {wrong:?}");
     Ok(())
 }
 
 #[test]
 fn streams_of_many_runs_select_each_of_them(rt: HostRuntime) -> Result<(), Fail> {
-    let lists = two_lists(rt.alloc())?;
-    for row in &ROWS {
-        let wanted = wanted(rt.alloc(), row)?;
-        assert!(rt;
-            selections::selects(rt.alloc(), row.0, &lists, &wanted)?,
-            "at {:?}",
-            row.0
-        );
-    }
+    let wrong = first_wrong(rt.alloc(), Way::Streams, &ROWS)?;
+    assert!(rt; wrong.is_none(), "at {wrong:?}");
     Ok(())
 }
 
 #[test]
 fn runs_of_both_lists_are_counted_twice(rt: HostRuntime) -> Result<(), Fail> {
-    let lists = two_lists(rt.alloc())?;
-    for row in &COUNTED {
-        let wanted = wanted(rt.alloc(), row)?;
-        assert!(rt;
-            operations::selects(rt.alloc(), row.0, &lists, &wanted)?,
-            "at {:?}",
-            row.0
-        );
-    }
+    let wrong = first_wrong(rt.alloc(), Way::Combine, &COUNTED)?;
+    assert!(rt; wrong.is_none(), "at {wrong:?}");
     Ok(())
 }
 
 #[test]
 fn runs_of_both_streams_are_counted_twice(rt: HostRuntime) -> Result<(), Fail> {
-    let lists = two_lists(rt.alloc())?;
-    for row in &COUNTED {
-        let wanted = wanted(rt.alloc(), row)?;
-        assert!(rt;
-            selections::selects(rt.alloc(), row.0, &lists, &wanted)?,
-            "at {:?}",
-            row.0
-        );
-    }
+    let wrong = first_wrong(rt.alloc(), Way::Streams, &COUNTED)?;
+    assert!(rt; wrong.is_none(), "at {wrong:?}");
     Ok(())
 }
 
@@ -137,8 +115,8 @@ fn outside(alloc: Global) -> Result<Vec<(u32, u32)>, AllocError> {
 fn what_no_list_has_reaches_the_last_address(rt: HostRuntime) -> Result<(), Fail> {
     let lists = two_lists(rt.alloc())?;
     let (complement, wanted) = (Operation::Complement, outside(rt.alloc())?);
-    assert!(rt; operations::selects(rt.alloc(), complement, &lists, &wanted)?);
-    assert!(rt; selections::selects(rt.alloc(), complement, &lists, &wanted)?);
+    assert!(rt; selects(rt.alloc(), Way::Combine, complement, &lists, &wanted)?);
+    assert!(rt; selects(rt.alloc(), Way::Streams, complement, &lists, &wanted)?);
     Ok(())
 }
 
@@ -146,8 +124,8 @@ fn what_no_list_has_reaches_the_last_address(rt: HostRuntime) -> Result<(), Fail
 fn at_least_none_of_the_lists_have_every_address(rt: HostRuntime) -> Result<(), Fail> {
     let lists = two_lists(rt.alloc())?;
     let (at_least, every) = (Operation::AtLeast(0), [(0, u32::MAX)]);
-    assert!(rt; operations::selects(rt.alloc(), at_least, &lists, &every)?);
-    assert!(rt; selections::selects(rt.alloc(), at_least, &lists, &every)?);
+    assert!(rt; selects(rt.alloc(), Way::Combine, at_least, &lists, &every)?);
+    assert!(rt; selects(rt.alloc(), Way::Streams, at_least, &lists, &every)?);
     Ok(())
 }
 

@@ -1,5 +1,6 @@
 //! Operations on up to three lists, worked out by hand.
 
+use crate::selections::selected;
 use crate::sets::are;
 use address_lists::{AddressList, Operation, combine, read_list};
 use std::alloc::{AllocError, Allocator, Global};
@@ -14,6 +15,15 @@ pub(crate) static TEXTS: [&str; 3] = [
 
 /// The last address of a family.
 const LAST: u32 = u32::MAX;
+
+/// A way to an operation on lists.
+#[derive(Clone, Copy)]
+pub(crate) enum Way {
+    /// By `combine`.
+    Combine,
+    /// By the operation on the streams of the lists.
+    Streams,
+}
 
 /// An operation, and what it selects from none of the lists, from the first one, from the first
 /// two, and from all three.
@@ -176,26 +186,49 @@ pub(crate) fn is_selected<A: Allocator>(
     Ok(are(&list.v4, wanted) && are(&list.v6, &v6(alloc, wanted)?))
 }
 
-/// Returns whether the operation selects these addresses in both families.
+/// Returns whether a way to an operation selects these addresses in both families.
 pub(crate) fn selects(
     alloc: Global,
+    way: Way,
     operation: Operation,
     lists: &[AddressList],
     wanted: &[(u32, u32)],
 ) -> Result<bool, AllocError> {
-    is_selected(alloc, &combine(alloc, operation, lists)?, wanted)
+    let list = match way {
+        Way::Combine => combine(alloc, operation, lists)?,
+        Way::Streams => selected(alloc, operation, lists)?,
+    };
+    is_selected(alloc, &list, wanted)
 }
 
-/// Returns the least number of lists from which an operation does not select what its row says.
+/// Returns the least number of lists from which a way to an operation does not select what the
+/// operation's row says.
 fn first_wrong(
     alloc: Global,
+    way: Way,
     lists: &[AddressList],
     row: &Row,
 ) -> Result<Option<usize>, AllocError> {
     for (count, wanted) in row.selected.iter().enumerate() {
         let given = lists.get(..count).unwrap_or(&[]);
-        if !selects(alloc, row.operation, given, wanted)? {
+        if !selects(alloc, way, row.operation, given, wanted)? {
             return Ok(Some(count));
+        }
+    }
+    Ok(None)
+}
+
+/// Returns the first operation that does not select what its row says, and from how many lists.
+pub(crate) fn wrong_row(
+    alloc: Global,
+    way: Way,
+    texts: &[&str],
+    rows: &[Row],
+) -> Result<Option<(Operation, usize)>, Fail> {
+    let lists = lists(alloc, texts)?;
+    for row in rows {
+        if let Some(count) = first_wrong(alloc, way, &lists, row)? {
+            return Ok(Some((row.operation, count)));
         }
     }
     Ok(None)
@@ -203,36 +236,23 @@ fn first_wrong(
 
 #[test]
 fn operations_select_from_0_to_3_lists(rt: HostRuntime) -> Result<(), Fail> {
-    let lists = lists(rt.alloc(), &TEXTS)?;
-    for row in &ROWS {
-        let wrong = first_wrong(rt.alloc(), &lists, row)?;
-        assert!(rt;
-            wrong.is_none(),
-            "at {:?} of {wrong:?} lists",
-            row.operation
-        );
-    }
+    let wrong = wrong_row(rt.alloc(), Way::Combine, &TEXTS, &ROWS)?;
+    assert!(rt; wrong.is_none(), "at {wrong:?}");
     Ok(())
 }
 
 #[test]
 fn operations_select_up_to_the_ends_of_a_family(rt: HostRuntime) -> Result<(), Fail> {
-    let lists = lists(rt.alloc(), &END_TEXTS)?;
-    for row in &END_ROWS {
-        let wrong = first_wrong(rt.alloc(), &lists, row)?;
-        assert!(rt;
-            wrong.is_none(),
-            "at {:?} of {wrong:?} lists",
-            row.operation
-        );
-    }
+    let wrong = wrong_row(rt.alloc(), Way::Combine, &END_TEXTS, &END_ROWS)?;
+    assert!(rt; wrong.is_none(), "at {wrong:?}");
     Ok(())
 }
 
 #[test]
 fn a_list_that_is_given_twice_counts_twice(rt: HostRuntime) -> Result<(), Fail> {
-    let lists = lists(rt.alloc(), &[TEXTS[0], TEXTS[0]])?;
-    assert!(rt; selects(rt.alloc(), Operation::AtLeast(2), &lists, &[(1, 5)])?);
-    assert!(rt; selects(rt.alloc(), Operation::Odd, &lists, &[])?);
+    let (alloc, way) = (rt.alloc(), Way::Combine);
+    let lists = lists(alloc, &[TEXTS[0], TEXTS[0]])?;
+    assert!(rt; selects(alloc, way, Operation::AtLeast(2), &lists, &[(1, 5)])?);
+    assert!(rt; selects(alloc, way, Operation::Odd, &lists, &[])?);
     Ok(())
 }

@@ -3,13 +3,13 @@
 
 ghost use Rattle.std.specs.Prelude.{All};
 
-use crate::operations::{END_ROWS, END_TEXTS, ROWS, Row, TEXTS, is_selected, lists};
+use crate::operations::{END_ROWS, END_TEXTS, ROWS, TEXTS, Way, lists, wrong_row};
 use address_lists::selection::{
     at_least, common, complement, except, odd, union, v4_ranges, v6_ranges,
 };
 use address_lists::{Address, AddressList, AddressSet, Operation};
 use range_set_blaze::DrawDisjoint;
-use std::alloc::{AllocError, Allocator, Global};
+use std::alloc::{AllocError, Allocator};
 use std::test::*;
 
 /// Returns the set of what an operation on ready streams gives.
@@ -41,57 +41,17 @@ pub(crate) fn selected<A: Allocator + Copy>(
     Ok(AddressList { v4, v6 })
 }
 
-/// Returns whether an operation on the streams of lists selects these addresses in both families.
-pub(crate) fn selects(
-    alloc: Global,
-    operation: Operation,
-    lists: &[AddressList],
-    wanted: &[(u32, u32)],
-) -> Result<bool, AllocError> {
-    is_selected(alloc, &selected(alloc, operation, lists)?, wanted)
-}
-
-/// Returns the least number of lists from whose streams an operation does not select what its row
-/// says.
-fn first_wrong(
-    alloc: Global,
-    lists: &[AddressList],
-    row: &Row,
-) -> Result<Option<usize>, AllocError> {
-    for (count, wanted) in row.selected.iter().enumerate() {
-        let given = lists.get(..count).unwrap_or(&[]);
-        if !selects(alloc, row.operation, given, wanted)? {
-            return Ok(Some(count));
-        }
-    }
-    Ok(None)
-}
-
 #[test]
 fn streams_select_from_0_to_3_lists(rt: HostRuntime) -> Result<(), Fail> {
-    let lists = lists(rt.alloc(), &TEXTS)?;
-    for row in &ROWS {
-        let wrong = first_wrong(rt.alloc(), &lists, row)?;
-        assert!(rt;
-            wrong.is_none(),
-            "at {:?} of {wrong:?} lists",
-            row.operation
-        );
-    }
+    let wrong = wrong_row(rt.alloc(), Way::Streams, &TEXTS, &ROWS)?;
+    assert!(rt; wrong.is_none(), "at {wrong:?}");
     Ok(())
 }
 
 #[test]
 fn streams_select_up_to_the_ends_of_a_family(rt: HostRuntime) -> Result<(), Fail> {
-    let lists = lists(rt.alloc(), &END_TEXTS)?;
-    for row in &END_ROWS {
-        let wrong = first_wrong(rt.alloc(), &lists, row)?;
-        assert!(rt;
-            wrong.is_none(),
-            "at {:?} of {wrong:?} lists",
-            row.operation
-        );
-    }
+    let wrong = wrong_row(rt.alloc(), Way::Streams, &END_TEXTS, &END_ROWS)?;
+    assert!(rt; wrong.is_none(), "at {wrong:?}");
     Ok(())
 }
 

@@ -1,4 +1,4 @@
-//! Decimal numbers at the front of bytes, read without a second look at any byte.
+//! Decimal numbers at the front of bytes, read without a branch on how many digits they have.
 
 ghost use Rattle.std.specs.Prelude.{◌≡◌, ℕ, ◌+◌, ◌<◌, ◌≤◌, ◌++◌, ◌∷◌, IfSome, List, cond, decimal, drop, length};
 
@@ -41,8 +41,8 @@ pub(crate) fn octet(bytes: &[u8]) -> Option<(u8, &[u8])>
     Some((number, &bytes[end..]))
 }
 
-/// Reads a number below 256 in decimal, without a leading zero, from a place on. Returns the number
-/// and the place after it.
+/// Reads a number below 256 in decimal, without a leading zero, starting at a place. Returns the
+/// number and the place after it.
 #[inline(always)]
 pub(crate) fn octet_at(bytes: &[u8], start: usize) -> Option<(u8, usize)>
     requires { start + 3 ≤ length bytes.now }
