@@ -56,7 +56,7 @@ pub(crate) fn octet_at(bytes: &[u8], start: usize) -> Option<(u8, usize)>
 }
 
 // Reads a number below 256 at the front of three bytes. Returns the number and how many digits it
-// has. Nothing branches on how many they are, which a processor can't foresee.
+// has. Nothing branches on how many they are, which a processor can't predict.
 #[inline(always)]
 fn octet_of_three(first: u8, second: u8, third: u8) -> Option<(u8, usize)>
     ensures fits { IfSome result (λ read. read.0 < 256) }
