@@ -124,6 +124,29 @@ fn all_but_one_address_have_a_block_for_each_bit(rt: HostRuntime) -> Result<(), 
     Ok(())
 }
 
+/// Returns whether the blocks of a set, and a copy of them that is made after the first one, go on
+/// with the same blocks.
+fn copy_goes_on(
+    alloc: Global,
+    set: &RangeSetBlaze<u32>,
+    rest: &[(u32, u32)],
+) -> Result<bool, AllocError> {
+    let mut blocks = Blocks::new(set.ranges());
+    let Some(_) = blocks.next() else {
+        return Ok(false);
+    };
+    let copied = blocks.clone()?.collect::<Vec<_>>(alloc)?;
+    let left = blocks.collect::<Vec<_>>(alloc)?;
+    Ok(are(&copied, rest) && are(&left, rest))
+}
+
+#[test]
+fn a_copy_of_the_blocks_goes_on_alike(rt: HostRuntime) -> Result<(), Fail> {
+    let set = RangeSetBlaze::from(rt.alloc(), 3..=9)?;
+    assert!(rt; copy_goes_on(rt.alloc(), &set, &[(4, 30), (8, 31)])?);
+    Ok(())
+}
+
 /// Returns whether these are the number of bits of an address, and the number of the last one.
 fn has_numbers<T: Address>(bits: u32, last: u128) -> bool {
     T::bits() == bits

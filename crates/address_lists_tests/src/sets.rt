@@ -168,3 +168,24 @@ fn ranges_come_one_by_one_and_then_no_more(rt: HostRuntime) -> Result<(), Fail> 
     assert!(rt; ranges.next().is_none() && ranges.next().is_none());
     Ok(())
 }
+
+/// Returns whether the ranges of a set, and a copy of them that is made after the first one, go on
+/// with the same ranges.
+fn copy_goes_on<T: Address + 'static>(
+    set: &AddressSet<T>,
+    rest: &[(T, T)],
+) -> Result<bool, AllocError> {
+    let mut ranges = set.ranges();
+    let has_first = ranges.next().is_some();
+    let copy = ranges.clone()?;
+    Ok(has_first && gives(copy, rest) && gives(ranges, rest))
+}
+
+#[test]
+fn a_copy_of_the_ranges_goes_on_alike(rt: HostRuntime) -> Result<(), Fail> {
+    let v4 = set_of(rt.alloc(), &[(0, 5), (7, V4_LAST)])?;
+    let v6 = set_of(rt.alloc(), &[(0, 5), (7, 7), (9, V6_LAST)])?;
+    assert!(rt; copy_goes_on(&v4, &[(7, V4_LAST)])?);
+    assert!(rt; copy_goes_on(&v6, &[(7, 7), (9, V6_LAST)])?);
+    Ok(())
+}
