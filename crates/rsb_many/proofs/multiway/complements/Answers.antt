@@ -1,5 +1,5 @@
-use Rattle.std.proofs.Common.{[], ◌∷◌, All, subst, sym}
-use Rattle.std.proofs.lemmas.List.Elements.{All-append, All-cons, All-nil}
+use Rattle.std.proofs.lemmas.List.Elements.{All-nil, All-push}
+use Rattle.std.proofs.lemmas.Result.{IfOk-from_err}
 use Rattle.rsb_streams.specs.NotIter.{not_iter}
 use Rattle.rsb_many.specs.MultiwayResults.{AreComplements}
 use Rattle.rsb_many.proofs.lemmas.inputs.HandedIn.{ended-run}
@@ -10,16 +10,13 @@ use Rattle.rsb_many.proofs.multiway.complements.Goals as goal
 pub loop-stream-preserved : goal.loop-stream-preserved
 loop-stream-preserved g c =
     let can = (not_iter g.T.Integer g.I.Draw).can_draw in
-    let more = sym c.in_ok-push.ensures.items in
-    record {
-      ready = subst (All can) more (All-append can c.loop-stream.gaps.items (c.complement.result ∷ [])
-          c.loop-stream.invariant.ready
-          (All-cons can c.complement.result [] c.complement.ensures.made.ready (All-nil can)));
-      made = subst (AreComplements g.T.Integer g.I.Draw _) more
-          (AreComplements-more g.T.Integer g.I.Draw c.loop-stream.yielded c.loop-stream.gaps.items
+    rw c.in_ok-push.ensures.items (record {
+      ready = All-push can c.loop-stream.gaps.items c.complement.result
+          c.loop-stream.invariant.ready c.complement.ensures.made.ready;
+      made = AreComplements-more g.T.Integer g.I.Draw c.loop-stream.yielded c.loop-stream.gaps.items
           c.in-Some.stream c.complement.result c.loop-stream.invariant.made
-          c.complement.ensures.made);
-    }
+          c.complement.ensures.made;
+    })
 
 -- The complements are those of the streams that were passed.
 pub returns-clause-made : goal.returns-clause-made
@@ -28,3 +25,22 @@ returns-clause-made g c = ended-run g.K.IntoIterator.into_iter_gives g.K.IntoIte
     c.into_iter-stream-iterator.result c.loop-stream.stream-iterator c.next.new.self
     c.loop-stream.yielded c.into_iter-stream-iterator.ensures.into_iter_gives
     c.loop-stream.yielded_by c.in-None.ensures.steps c.loop-stream.invariant.made
+
+-- No stream has come yet.
+pub loop-stream-init : goal.loop-stream-init
+loop-stream-init g c = rw c.new-gaps.ensures.items (record {
+  ready = All-nil (not_iter g.T.Integer g.I.Draw).can_draw;
+  made = tt;
+})
+
+pub next-requires : goal.next-requires
+next-requires g c = c.loop-stream.iterator.0
+
+pub returns-in_err-push-clause-ready : goal.returns-in_err-push-clause-ready
+returns-in_err-push-clause-ready g c = IfOk-from_err c.from_residual.result _ c.from_residual.ensures.0
+
+pub returns-in_err-push-clause-made : goal.returns-in_err-push-clause-made
+returns-in_err-push-clause-made g c = IfOk-from_err c.from_residual.result _ c.from_residual.ensures.0
+
+pub returns-clause-ready : goal.returns-clause-ready
+returns-clause-ready g c = c.loop-stream.invariant.ready
