@@ -13,8 +13,9 @@ use Rattle.rsb_many.proofs.lemmas.merging.Operations.{AreComplements-more}
 use Rattle.rsb_many.proofs.multiway.complements.Goals as goal
 
 -- A fact about every item that an iterator gives holds of the next one.
-next-item : {S X : Type 0} (steps : S → Option X → S → Type 0) (P : X → Type 0) (first last next : S)
-    (items : List X) (item : X) → EachRunFrom steps first (λ run. All P run.items)
+next-item : {S X : Type 0} (steps : S → Option X → S → Type 0) (P : X → Type 0)
+    (first last next : S) (items : List X) (item : X)
+    → EachRunFrom steps first (λ run. All P run.items)
     → Yields steps first items last → steps last (Some item) next → P item
 next-item steps P first last next items item each came step =
     All-contains P (items ++ item ∷ []) item
@@ -62,10 +63,12 @@ complement-requires g c = next-item g.K.IntoIter.Iterator.next_gives g.I.Draw.ca
     c.loop-stream.yielded_by c.in-Some.ensures.steps
 
 pub returns-in_err-push-clause-ready : goal.returns-in_err-push-clause-ready
-returns-in_err-push-clause-ready g c = IfOk-from_err c.from_residual.result _ c.from_residual.ensures.0
+returns-in_err-push-clause-ready g c =
+    IfOk-from_err c.from_residual.result _ c.from_residual.ensures.0
 
 pub returns-in_err-push-clause-made : goal.returns-in_err-push-clause-made
-returns-in_err-push-clause-made g c = IfOk-from_err c.from_residual.result _ c.from_residual.ensures.0
+returns-in_err-push-clause-made g c =
+    IfOk-from_err c.from_residual.result _ c.from_residual.ensures.0
 
 pub returns-clause-ready : goal.returns-clause-ready
 returns-clause-ready g c = c.loop-stream.invariant.ready

@@ -15,10 +15,12 @@ returns-clause-made g c =
     gave.1.0 gave.1.3 gave.2) c.union.ensures.made)
 
 pub returns-in_err-taken-clause-ready : goal.returns-in_err-taken-clause-ready
-returns-in_err-taken-clause-ready g c = IfOk-from_err c.from_residual.result _ c.from_residual.ensures.0
+returns-in_err-taken-clause-ready g c =
+    IfOk-from_err c.from_residual.result _ c.from_residual.ensures.0
 
 pub returns-in_err-taken-clause-made : goal.returns-in_err-taken-clause-made
-returns-in_err-taken-clause-made g c = IfOk-from_err c.from_residual.result _ c.from_residual.ensures.0
+returns-in_err-taken-clause-made g c =
+    IfOk-from_err c.from_residual.result _ c.from_residual.ensures.0
 
 pub union-requires-clause-ends : goal.union-requires-clause-ends
 union-requires-clause-ends g c = λ iter gives. (tt, tt)

@@ -1,9 +1,8 @@
-use Rattle.std.proofs.Common.{◌∷◌, ◌++◌, [], ◌∙◌, ap, append_assoc, subst, sym}
+use Rattle.std.proofs.Common.{◌∷◌, ◌++◌, [], ◌∙◌, ap, append_assoc, subst}
 use Rattle.std.proofs.lemmas.List.{append-nil, map-append}
 use Rattle.std.specs.Prelude.{List, Some, None}
-use Rattle.std.specs.declared.ops.RangeInclusive.{RangeInclusive}
 use Rattle.rsb_integer.specs.Rank.{interval_of, intervals_of}
-use Rattle.rsb_integer.specs.Runs.{Interval, IsCanonicalIn}
+use Rattle.rsb_integer.specs.Runs.{Interval}
 use Rattle.rsb_streams.specs.Stream.{Outcomes}
 use Rattle.rsb_many.proofs.dyn_sorted_disjoint.DynSortedDisjoint.new.Goals as goal
 
@@ -35,7 +34,8 @@ loop-range-preserved g c =
 pub returns-clause-ready : goal.returns-clause-ready
 returns-clause-ready g c =
     let taken = intervals_of g.T.Integer.rank c.loop-range.ranges.items in
-    let none = g.met.I.Draw.answers c.loop-range.stream c.draw.new.self None c.in_default.ensures.steps in
+    let none = g.met.I.Draw.answers c.loop-range.stream c.draw.new.self None
+    c.in_default.ensures.steps in
     rw c.into_iter.ensures.rest (g.met.I.DrawDisjoint.canonical c.args.stream c.requires taken
     (all_given (g.I.Draw.may_give c.loop-range.stream) (g.I.Draw.may_give c.args.stream) taken none
     c.loop-range.invariant.given))
@@ -43,7 +43,8 @@ returns-clause-ready g c =
 pub returns-clause-gives : goal.returns-clause-gives
 returns-clause-gives g c = λ runs same.
     let taken = intervals_of g.T.Integer.rank c.loop-range.ranges.items in
-    let none = g.met.I.Draw.answers c.loop-range.stream c.draw.new.self None c.in_default.ensures.steps in
+    let none = g.met.I.Draw.answers c.loop-range.stream c.draw.new.self None
+    c.in_default.ensures.steps in
     rw (same, c.into_iter.ensures.rest)
     (all_given (g.I.Draw.may_give c.loop-range.stream) (g.I.Draw.may_give c.args.stream) taken none
     c.loop-range.invariant.given)
