@@ -1,7 +1,7 @@
 -- A list that is passed as an iterator gives all of its items.
-use Rattle.std.proofs.Common.{◌≡◌, List, ◌∙◌, ap, subst}
+use Rattle.std.proofs.Common.{◌≡◌, rules, All, List, ◌∙◌, ap, subst}
 use Rattle.std.specs.Iterator.{YieldsFirst, item_count}
-use Rattle.std.specs.Iterator.Runs.{EveryRun, ItemsAre, Run, WholeRun}
+use Rattle.std.specs.Iterator.Runs.{EachRunFrom, EveryRun, ItemsAre, Run, WholeRun}
 use Rattle.std.specs.Prelude.{Option}
 use Rattle.std.specs.Vec.Iter.{into_iter_items, into_iter_steps}
 use Rattle.std.specs.declared.ops.RangeInclusive.{RangeInclusive}
@@ -38,3 +38,10 @@ module _ {X Z : Type 0} where
   given-list items iter Fact is runs whole = subst Fact
       (whole-items (into_iter_steps {X = X} {Z = Z}) (λ from. into_iter_items from) items iter
       (λ run. Fact run.items) is runs whole) whole.3
+
+  -- If a fact holds of each item of the list, it holds of each item that the iterator gives.
+  pub given-each : (P : X → Type 0) (items : List X) (iter : IntoIter X Z) → All P items
+      → into_iter_items iter ≡ items
+      → EveryRun (into_iter_steps {X = X} {Z = Z}) (λ run. ItemsAre run (into_iter_items run.from))
+      → EachRunFrom (into_iter_steps {X = X} {Z = Z}) iter (λ run. All P run.items)
+  given-each P items iter all is runs = search rules

@@ -1,7 +1,7 @@
-use Rattle.std.proofs.lemmas.Result.{IfOk-weaker}
+use Rattle.std.proofs.lemmas.Result.{IfOk-at_ok, IfOk-from_err, IfOk-weaker}
 use Rattle.rsb_many.specs.MultiwayResults.{MakesMultiwaySymmetricDifference}
 use Rattle.rsb_many.specs.MultiwaySymmetricDifference.{multiway_symmetric_difference}
-use Rattle.rsb_many.proofs.lemmas.inputs.GivenList.{given-list, taken_stream}
+use Rattle.rsb_many.proofs.lemmas.inputs.GivenList.{given-each, given-list, taken_stream}
 use Rattle.rsb_many.proofs.taken.symmetric_difference_of_taken.Goals as goal
 
 -- The symmetric difference is of the streams of the list.
@@ -13,3 +13,22 @@ returns-clause-made g c =
     rw c.in_ok-taken.was (IfOk-weaker c.symmetric_difference.result _ _ (λ given gave.
     given-list streams gave.0 (λ each. MakesMultiwaySymmetricDifference g.T.Integer of made each given)
     gave.1.0 gave.1.3 gave.2) c.symmetric_difference.ensures.made)
+
+pub returns-in_err-taken-clause-ready : goal.returns-in_err-taken-clause-ready
+returns-in_err-taken-clause-ready g c =
+    IfOk-from_err c.from_residual.result _ c.from_residual.ensures.0
+
+pub returns-in_err-taken-clause-made : goal.returns-in_err-taken-clause-made
+returns-in_err-taken-clause-made g c =
+    IfOk-from_err c.from_residual.result _ c.from_residual.ensures.0
+
+pub symmetric_difference-requires-clause-ends : goal.symmetric_difference-requires-clause-ends
+symmetric_difference-requires-clause-ends g c = λ iter gives. (tt, tt)
+
+pub symmetric_difference-requires-clause-can : goal.symmetric_difference-requires-clause-can
+symmetric_difference-requires-clause-can g c = λ iter gives.
+    given-each (taken_stream g.T.Integer).can_draw c.in_ok-taken.field-0.items iter
+    (IfOk-at_ok _ c.in_ok-taken.was c.requires) gives.0 gives.3
+
+pub returns-clause-ready : goal.returns-clause-ready
+returns-clause-ready g c = c.symmetric_difference.ensures.ready

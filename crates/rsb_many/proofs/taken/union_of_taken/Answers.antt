@@ -1,7 +1,7 @@
-use Rattle.std.proofs.lemmas.Result.{IfOk-weaker}
+use Rattle.std.proofs.lemmas.Result.{IfOk-at_ok, IfOk-from_err, IfOk-weaker}
 use Rattle.rsb_many.specs.MultiwayResults.{MakesMultiwayUnion}
 use Rattle.rsb_many.specs.MultiwayUnion.{multiway_union}
-use Rattle.rsb_many.proofs.lemmas.inputs.GivenList.{given-list, taken_stream}
+use Rattle.rsb_many.proofs.lemmas.inputs.GivenList.{given-each, given-list, taken_stream}
 use Rattle.rsb_many.proofs.taken.union_of_taken.Goals as goal
 
 -- The union is of the streams of the list.
@@ -13,3 +13,22 @@ returns-clause-made g c =
     rw c.in_ok-taken.was (IfOk-weaker c.union.result _ _ (λ given gave.
     given-list streams gave.0 (λ each. MakesMultiwayUnion g.T.Integer of made each given)
     gave.1.0 gave.1.3 gave.2) c.union.ensures.made)
+
+pub returns-in_err-taken-clause-ready : goal.returns-in_err-taken-clause-ready
+returns-in_err-taken-clause-ready g c =
+    IfOk-from_err c.from_residual.result _ c.from_residual.ensures.0
+
+pub returns-in_err-taken-clause-made : goal.returns-in_err-taken-clause-made
+returns-in_err-taken-clause-made g c =
+    IfOk-from_err c.from_residual.result _ c.from_residual.ensures.0
+
+pub union-requires-clause-ends : goal.union-requires-clause-ends
+union-requires-clause-ends g c = λ iter gives. (tt, tt)
+
+pub union-requires-clause-can : goal.union-requires-clause-can
+union-requires-clause-can g c = λ iter gives.
+    given-each (taken_stream g.T.Integer).can_draw c.in_ok-taken.field-0.items iter
+    (IfOk-at_ok _ c.in_ok-taken.was c.requires) gives.0 gives.3
+
+pub returns-clause-ready : goal.returns-clause-ready
+returns-clause-ready g c = c.union.ensures.ready

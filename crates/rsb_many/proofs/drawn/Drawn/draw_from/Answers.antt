@@ -1,4 +1,4 @@
-use Rattle.std.proofs.Common.{ap, refl, subst, sym, ◌∙◌, Some, None}
+use Rattle.std.proofs.Common.{ap, arith, refl, subst, sym, ◌∙◌, Some, None}
 use Rattle.std.specs.Prelude.{IfSome}
 use Rattle.rsb_many.proofs.lemmas.inputs.Drawn.{values-drawn}
 use Rattle.rsb_many.proofs.lemmas.inputs.Places.{slice_get-get_or}
@@ -46,3 +46,27 @@ returns-in_default-clause-draws g c = record {
   stands = refl;
   kept = refl;
 }
+
+pub draw-requires : goal.draw-requires
+draw-requires g c = subst (λ each. IfSome each g.I.Draw.can_draw)
+    (slice_get-get_or c.args.self.now.streams.items c.args.place c.index_mut.result.now
+    c.requires.place ∙ ap Some (sym c.index_mut.ensures.value)) c.requires.ready
+
+pub push_range-requires-clause-room : goal.push_range-requires-clause-room
+push_range-requires-clause-room g c = c.requires.room
+
+pub returns-in-Some-clause-used : goal.returns-in-Some-clause-used
+returns-in-Some-clause-used g c = refl
+
+pub returns-in-Some-clause-room : goal.returns-in-Some-clause-room
+returns-in-Some-clause-room g c = c.push_range.ensures.room
+
+pub returns-in-Some-clause-compared : goal.returns-in-Some-clause-compared
+returns-in-Some-clause-compared g c =
+    rw c.push_range.ensures.closed (omega (arith, c.push_range.ensures.compared))
+
+pub returns-in-Some-clause-counted : goal.returns-in-Some-clause-counted
+returns-in-Some-clause-counted g c = c.push_range.ensures.counted
+
+pub returns-in_default-clause-used : goal.returns-in_default-clause-used
+returns-in_default-clause-used g c = refl

@@ -56,3 +56,23 @@ returns-clause-steps g c = draw-last g.T.Integer g.I.Draw c.args.self.now c.loop
     c.take.new.self c.in_ok-start.start c.max_value.result (sym c.in_ok-start.ensures.value)
     c.max_value.ensures c.new.result
     (rw (c.new.ensures.exhausted, c.new.ensures.start, c.new.ensures.end) refl)
+
+pub returns-then-self-clause-goes : goal.returns-then-self-clause-goes
+returns-then-self-clause-goes g c = record {
+  on = λ finite. tt;
+  keeps = tt;
+  rests = λ finite. finite;
+}
+
+pub next-requires : goal.next-requires
+next-requires g c = c.loop-event.invariant.ready.sweep
+
+pub pass-requires-clause-start : goal.pass-requires-clause-start
+pass-requires-clause-start g c = c.loop-event.invariant.ready.start
+
+pub returns-in_err-start-clause-goes : goal.returns-in_err-start-clause-goes
+returns-in_err-start-clause-goes g c = rw c.from_residual.ensures (record {
+  on = λ finite. tt;
+  keeps = tt;
+  rests = λ finite. tt;
+})
