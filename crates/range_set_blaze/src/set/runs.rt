@@ -219,13 +219,11 @@ impl<T: Integer, A: Allocator + Clone> Runs<T, A> {
         requires { IsCanonicalIn T.value_count (low.now ++ high.now) }
         ensures { IfOk result (λ runs. runs ≡ low.now ++ high.now) }
     {
-        let entries = low
-            .map
-            .iter()
-            .chain(high.map.iter())
-            .map(|(start, end)| (*start, *end));
-        let map = entries.collect(alloc)?;
-        Ok(Runs { map })
+        // One list with room for all, since a chain of iterators asks at each entry which it is in.
+        let mut entries = Vec::with_capacity(alloc.clone()?, low.len().saturating_add(high.len()))?;
+        entries.extend(low.map.iter().map(|(start, end)| (*start, *end)))?;
+        entries.extend(high.map.iter().map(|(start, end)| (*start, *end)))?;
+        Runs::from_entries(alloc, entries)
     }
 
     /// Inserts a run, in place of any run with the same start. It does not allocate if there is
