@@ -219,11 +219,23 @@ impl<T: Integer, A: Allocator + Clone> Runs<T, A> {
         requires { IsCanonicalIn T.value_count (low.now ++ high.now) }
         ensures { IfOk result (λ runs. runs ≡ low.now ++ high.now) }
     {
-        // One list with room for all, since a chain of iterators asks at each entry which it is in.
-        let mut entries = Vec::with_capacity(alloc.clone()?, low.len().saturating_add(high.len()))?;
+        let entries = Runs::both_entries(alloc.clone()?, low, high)?;
+        Runs::from_entries(alloc, entries)
+    }
+
+    // Returns the entries of two lists, one after the other. A chain of two iterators would ask at
+    // each entry which of them it is in.
+    fn both_entries<L: Allocator, H: Allocator>(
+        alloc: A,
+        low: &Runs<T, L>,
+        high: &Runs<T, H>,
+    ) -> Result<Vec<(T, T), A>, AllocError>
+        ensures { IfOk result (λ entries. runs_of T.rank entries.items ≡ low.now ++ high.now) }
+    {
+        let mut entries = Vec::with_capacity(alloc, low.len().saturating_add(high.len()))?;
         entries.extend(low.map.iter().map(|(start, end)| (*start, *end)))?;
         entries.extend(high.map.iter().map(|(start, end)| (*start, *end)))?;
-        Runs::from_entries(alloc, entries)
+        Ok(entries)
     }
 
     /// Inserts a run, in place of any run with the same start. It does not allocate if there is
