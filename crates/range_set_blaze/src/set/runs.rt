@@ -108,6 +108,15 @@ impl<T: Integer, A: Allocator> Runs<T, A> {
         self.map.into_iter()
     }
 
+    // Adds the entries of the runs to a list.
+    fn push_to<B: Allocator>(&self, entries: &mut Vec<(T, T), B>) -> Result<(), AllocError>
+        ensures { OnOk result (runs_of T.rank entries.new.items
+            ≡ runs_of T.rank entries.old.items ++ self.now) }
+    {
+        entries.extend(self.map.iter().map(|(start, end)| (*start, *end)))?;
+        Ok(())
+    }
+
     /// Returns the last run that starts at or before a value, or `None` if there is none.
     pub(crate) fn up_to(&self, value: T) -> Option<Run<T>>
         requires { T.rank value < T.value_count }
@@ -233,8 +242,8 @@ impl<T: Integer, A: Allocator + Clone> Runs<T, A> {
         ensures { IfOk result (λ entries. runs_of T.rank entries.items ≡ low.now ++ high.now) }
     {
         let mut entries = Vec::with_capacity(alloc, low.len().saturating_add(high.len()))?;
-        entries.extend(low.map.iter().map(|(start, end)| (*start, *end)))?;
-        entries.extend(high.map.iter().map(|(start, end)| (*start, *end)))?;
+        low.push_to(&mut entries)?;
+        high.push_to(&mut entries)?;
         Ok(entries)
     }
 
