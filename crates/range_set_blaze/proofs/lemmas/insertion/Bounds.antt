@@ -1,11 +1,12 @@
 -- The ranks between two bounds, or of a range, as those of a run.
-use Rattle.std.proofs.Common.{◌≡◌, ℕ, Bool, ◌+◌, ◌<◌, ◌&&◌, ◌||◌, nat_le, nat_lt, List, ◌∙◌, ap, sym, arith}
+use Rattle.std.proofs.Common.{◌≡◌, ℕ, Bool, true, ◌+◌, ◌<◌, ◌&&◌, ◌||◌, nat_le, nat_lt, List, ◌∙◌, ap, sym, arith}
 use Rattle.std.proofs.lemmas.Bool.Decides.{nat_tests}
 use Rattle.std.specs.Range.{range_inclusive_end, range_inclusive_start}
 use Rattle.std.specs.declared.ops.RangeInclusive.{RangeInclusive}
 use Rattle.rsb_integer.specs.Rank.{interval_of}
 use Rattle.rsb_integer.specs.Runs.{Interval, covers, members, HasNoRanks, HasRanks}
 use Rattle.rsb_integer.proofs.lemmas.Range.{interval_of-some}
+use Rattle.range_set_blaze.specs.Joining.{HasAll}
 use Rattle.range_set_blaze.specs.Set.{only, Adds}
 use Rattle.range_set_blaze.specs.Storage.{run_of}
 use Rattle.range_set_blaze.specs.declared.set.run.Run.{Run}
@@ -33,3 +34,12 @@ adds-nothing set run none rank = gains (members set rank) none
   where
     gains : (member : Bool) → run.last < run.first → member ≡ (member || covers run rank)
     gains member none = grind (arith, nat_tests)
+
+-- Adding ranks that are all members changes nothing.
+pub adds-all : (set : List Interval) (run : Interval) → HasAll set (covers run)
+    → Adds set set (covers run)
+adds-all set run within rank = gains (members set rank) (within rank)
+  where
+    gains : (member : Bool) → (covers run rank ≡ true → member ≡ true)
+        → member ≡ (member || covers run rank)
+    gains member within = grind (arith, nat_tests)
