@@ -41,7 +41,7 @@ returns-clause-joining g c =
     c.last_two.ensures.two c.end_of-end.ensures c.past_start.result c.past_start-2.result
     c.past_start.ensures c.past_start-2.ensures short
 
--- The values that the calls take are within the type.
+-- The values that the calls take are of the type.
 pub last_two-requires : goal.last_two-requires
 last_two-requires g c = omega (arith, c.next_or_greatest.ensures, c.requires.value)
 
