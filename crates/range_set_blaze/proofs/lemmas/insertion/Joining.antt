@@ -1,11 +1,13 @@
 -- A run joined with the runs that it touches.
-use Rattle.std.proofs.Common.{◌≡◌, ◌↔◌, ℕ, Bool, true, false, ◌+◌, ◌-◌, ◌<◌, ◌≤◌, min, max, List, refl, sym, ap, ◌∙◌, inl, inr, arith, subst, Option, Some, None, IfSome, IsFalse, IsTrue, MatchOption}
+use Rattle.std.proofs.Common.{◌≡◌, ◌↔◌, ℕ, Bool, true, false, ◌||◌, ◌+◌, ◌-◌, ◌<◌, ◌≤◌, min, max, List, refl, sym, ap, ◌∙◌, inl, inr, arith, subst, Option, Some, None, IfSome, IsFalse, IsTrue, MatchOption}
 use Rattle.std.specs.List.{Contains}
 use Rattle.std.proofs.lemmas.Bool.{cases_lt}
+use Rattle.std.proofs.lemmas.Bool.Decides.{nat_tests}
 use Rattle.rsb_integer.specs.Selection.{LacksSome}
 use Rattle.rsb_integer.specs.Runs.{Interval, covers, members, IsCanonicalIn}
 use Rattle.rsb_integer.proofs.lemmas.List.{not_both}
 use Rattle.rsb_integer.proofs.lemmas.Members.{covers-bounds, covers-inside, members-end}
+use Rattle.range_set_blaze.specs.Set.{Adds}
 use Rattle.range_set_blaze.specs.Joining.{IsHull, IsInside, IsJoining, IsReaching, IsUnreached, KnowsInside, NoneInside}
 use Rattle.range_set_blaze.specs.Storage.{run_of}
 use Rattle.range_set_blaze.specs.Starts.{IsLastBelow, IsLastTwo, NoneBelow}
@@ -326,3 +328,17 @@ module _ {T : Type 0} (rank : T → ℕ) (n : ℕ) (runs : List Interval)
                 ap rank (sym is),
                 omega (arith, short, to),
               )
+
+-- Runs that gain the ranks of the joined run gain those of the new one and no others.
+pub hull-adds : (old new : List Interval) (run joined : Interval) → IsHull old run joined
+    → Adds old new (covers joined) → Adds old new (covers run)
+hull-adds old new run joined hull adds rank =
+    let has = hull.has rank in
+    let first = hull.first in
+    let last = hull.last in
+    adds rank ∙ gains (members old rank) has first last
+  where
+    gains : (member : Bool) → (covers joined rank ≡ true → (member || covers run rank) ≡ true)
+        → joined.first ≤ run.first → run.last ≤ joined.last
+        → (member || covers joined rank) ≡ (member || covers run rank)
+    gains member has first last = grind (arith, nat_tests)

@@ -1,12 +1,14 @@
 -- Two canonical lists of runs, one after the other.
 use Rattle.std.proofs.Common.{◌≡◌, ℕ, ◌+◌, ◌-◌, ◌<◌, ◌≤◌, List, [], ◌∷◌, ◌++◌, length, slice_get, ◌||◌, Some, arith, subst, sym, ◌∙◌}
 use Rattle.std.proofs.Math.Bool.{or_comm}
+use Rattle.std.proofs.lemmas.List.{length-append}
 use Rattle.std.proofs.lemmas.List.Elements.{All-append, All-head, All-tail}
 use Rattle.std.proofs.lemmas.List.Sums.{sum_by-append}
 use Rattle.std.proofs.lemmas.Option.{get_or_from_slice_get, slice_get_within}
 use Rattle.rsb_integer.specs.Runs.{Interval, length_of, members, AllEndBelow, IsCanonicalFrom, IsCanonicalIn}
 use Rattle.rsb_integer.proofs.lemmas.Canonical.{canonical-lower}
 use Rattle.rsb_integer.proofs.lemmas.Members.{members-append}
+use Rattle.rsb_streams.specs.RunCount.{HasRunsOfBothAtMost}
 use Rattle.range_set_blaze.specs.Storage.{IsKept}
 use Rattle.range_set_blaze.specs.Starts.{StartsWith}
 use Rattle.range_set_blaze.proofs.lemmas.order.EndRuns.{ends-last}
@@ -77,3 +79,12 @@ pub members-swapped : (left right : List Interval) (rank : ℕ)
     → members (right ++ left) rank ≡ (members left rank || members right rank)
 members-swapped left right rank =
     members-append right left rank ∙ or_comm (members right rank) (members left rank)
+
+-- Two lists one after the other have as many runs as both together.
+pub appended-few : (low high set : List Interval) → set ≡ low ++ high
+    → HasRunsOfBothAtMost low high set
+appended-few low high set is = rw is (omega (arith, length-append low high))
+
+pub swapped-few : (left right set : List Interval) → set ≡ right ++ left
+    → HasRunsOfBothAtMost left right set
+swapped-few left right set is = rw is (omega (arith, length-append right left))

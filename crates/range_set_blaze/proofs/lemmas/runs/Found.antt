@@ -1,5 +1,5 @@
 -- The last runs of a range of a map.
-use Rattle.std.proofs.Common.{◌≡◌, ℕ, nat_lt, ◌<◌, ◌≤◌, List, [], ◌∷◌, ◌++◌, sym, ap, ◌∙◌, arith, subst, Option, Some, None, MatchOption}
+use Rattle.std.proofs.Common.{◌≡◌, ℕ, nat_lt, ◌<◌, ◌≤◌, List, [], ◌∷◌, ◌++◌, sym, ap, ◌∙◌, arith, subst, Option, Some, None, MatchOption, IfSome}
 use Rattle.std.proofs.lemmas.Bool.Decides.{nat_tests}
 use Rattle.std.proofs.lemmas.List.{map-append}
 use Rattle.rsb_integer.specs.Runs.{Interval, IsCanonicalIn}
@@ -78,11 +78,20 @@ module _ {T : Type 0} (rank : T → ℕ) (n : ℕ) (runs : List Interval)
       let maximal = contained-maximal n runs canonical (run_of rank run) found.among in
       (omega (arith, maximal.in_order, maximal.in_type), maximal.in_type)
 
+  -- So do the last runs that `IsLastTwo` names.
+  pub two-values : (last before : Option (Run T)) → IsLastTwo rank runs bound last before
+      → IfSome last (λ run. rank run.start < n) × IfSome last (λ run. rank run.end < n)
+  two-values None before two = (tt, tt)
+  two-values (Some run) before two = last-value run two.0
+
 module _ {T : Type 0} (rank : T → ℕ) (runs : List Interval) (bound : ℕ) (last before : Option (Run T))
     (two : IsLastTwo rank runs bound last before) where
   -- What `IsLastTwo` states if it is known whether `last` and `before` are runs.
   pub two-last : (run : Run T) → last ≡ Some run → IsLastTwo rank runs bound (Some run) before
   two-last run is = subst (λ (each : Option (Run T)). IsLastTwo rank runs bound each before) is two
+
+  pub two-neither : last ≡ None → NoneBelow runs bound
+  two-neither is = subst (λ (each : Option (Run T)). IsLastTwo rank runs bound each before) is two
 
   pub two-before : (run other : Run T) → last ≡ Some run → before ≡ Some other
       → IsLastBelow runs (rank run.start) (run_of rank other)

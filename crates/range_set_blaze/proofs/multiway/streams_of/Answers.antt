@@ -1,8 +1,15 @@
 use Rattle.std.proofs.Common.{◌≡◌, ◌∷◌, ◌++◌, ◌∙◌, [], ap, map, sym}
 use Rattle.std.proofs.lemmas.List.{map-append}
-use Rattle.std.proofs.lemmas.List.Elements.{All-push}
+use Rattle.std.proofs.lemmas.List.Elements.{All-nil, All-push}
 use Rattle.rsb_many.proofs.lemmas.inputs.HandedIn.{ended-run}
 use Rattle.range_set_blaze.proofs.multiway.streams_of.Goals as goal
+
+-- No stream gives the runs of no set.
+pub loop-set-init : goal.loop-set-init
+loop-set-init g c = rw c.new-streams.ensures.items (record {
+  ready = All-nil g.S.Stream.Draw.can_draw;
+  given = sym g.met.S.GivesRuns.none;
+})
 
 -- The new stream gives the runs of the next set.
 pub loop-set-preserved : goal.loop-set-preserved
@@ -16,6 +23,9 @@ loop-set-preserved g c =
           ∙ ap (λ front. front ++ given more ∷ []) c.loop-set.invariant.given
           ∙ sym (c.stream.ensures.one_more c.loop-set.yielded);
     })
+
+pub returns-clause-ready : goal.returns-clause-ready
+returns-clause-ready g c = c.loop-set.invariant.ready
 
 -- The sets are all that the calls gave.
 pub returns-clause-given : goal.returns-clause-given

@@ -1,4 +1,4 @@
-use Rattle.std.proofs.Common.{◌≡◌, ℕ, List, Err, sym, subst, rules}
+use Rattle.std.proofs.Common.{◌≡◌, ℕ, List, Err, Ok, sym, subst, rules}
 use Rattle.std.specs.declared.ops.RangeInclusive.{RangeInclusive}
 use Rattle.rsb_integer.specs.Rank.{intervals_of}
 use Rattle.rsb_integer.specs.Runs.{members}
@@ -52,3 +52,19 @@ returns-in_err-ranges-clause-taken g c = λ runs place canonical is err.
     g.met.T.ParseInteger.numbers runs c.args.text.now canonical is in
     returns-in_err-ranges-clause-refused g c
     (ranges_of_runs rank n g.T.Integer.value_at laws.ranks runs) place spelled err
+
+-- A set is no error.
+not_err : {X Y : Type 0} (value : X) (error : Y) → Ok value ≡ Err error → ⊥
+not_err value error is = absurd (cc)
+
+pub returns-clause-unexpected : goal.returns-clause-unexpected
+returns-clause-unexpected g c place is =
+    absurd (not_err c.in_ok-set.set (Unexpected place) is)
+
+pub returns-clause-refused : goal.returns-clause-refused
+returns-clause-refused g c ranges place spelled is =
+    not_err c.in_ok-set.set (Unexpected place) is
+
+pub returns-clause-taken : goal.returns-clause-taken
+returns-clause-taken g c runs place canonical written is =
+    not_err c.in_ok-set.set (Unexpected place) is

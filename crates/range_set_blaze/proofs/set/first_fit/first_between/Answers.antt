@@ -1,7 +1,7 @@
 use Rattle.std.proofs.Common.{◌≡◌, ◌+◌, ◌<◌, inl, inr, arith, refl}
 use Rattle.std.proofs.lemmas.Bool.{cases_lt}
 use Rattle.range_set_blaze.specs.Storage.{run_of, runs_of}
-use Rattle.range_set_blaze.proofs.lemmas.fitting.FirstFits.{gaps-done, gaps-fit, gaps-next}
+use Rattle.range_set_blaze.proofs.lemmas.fitting.FirstFits.{gaps-done, gaps-fit, gaps-next, gaps-none, last-fit, last-short}
 use Rattle.range_set_blaze.proofs.lemmas.runs.Storage.{le-fails}
 use Rattle.range_set_blaze.proofs.set.first_fit.first_between.Goals as goal
 
@@ -43,3 +43,26 @@ loop-run-preserved g c =
     (rank c.sub_one-end.result) c.sub_one-end.ensures
     (le-fails c.is_long.result _ _ c.is_long.ensures c.if-is_long.false) (rank c.in_ok-start.start)
     next less
+
+-- At first no gap was passed.
+pub loop-run-init : goal.loop-run-init
+loop-run-init g c =
+    let rank = g.T.Integer.rank in
+    gaps-none g.T.Integer.value_count (g.T.SafeLen.SafeLength.number c.args.len)
+    (rank c.args.from) (runs_of rank c.args.entries.now) c.requires.later c.requires.within
+    c.requires.value
+
+-- After all runs, only the last gap is left.
+pub returns-then-is_long-2 : goal.returns-then-is_long-2
+returns-then-is_long-2 g c =
+    let rank = g.T.Integer.rank in
+    last-fit _ _ _ (rank c.loop-run.start) (rw c.in_default.ensures.run at c.loop-run.invariant)
+    (rank c.max_value-end.result) c.max_value-end.ensures
+    (c.is_long-2.ensures.0 c.if-is_long-2.true)
+
+pub returns-else-is_long-2 : goal.returns-else-is_long-2
+returns-else-is_long-2 g c =
+    let rank = g.T.Integer.rank in
+    last-short _ _ _ (rank c.loop-run.start) (rw c.in_default.ensures.run at c.loop-run.invariant)
+    (rank c.max_value-end.result) c.max_value-end.ensures
+    (le-fails c.is_long-2.result _ _ c.is_long-2.ensures c.if-is_long-2.false)

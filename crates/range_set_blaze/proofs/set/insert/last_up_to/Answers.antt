@@ -1,5 +1,5 @@
 use Rattle.std.proofs.Common.{arith}
-use Rattle.range_set_blaze.proofs.lemmas.runs.Found.{last-lower, last-value, none-lower, two-before, two-last, two-none}
+use Rattle.range_set_blaze.proofs.lemmas.runs.Found.{last-lower, last-value, none-lower, two-before, two-last, two-neither, two-none}
 use Rattle.range_set_blaze.proofs.lemmas.runs.Storage.{lt-fails}
 use Rattle.range_set_blaze.proofs.set.insert.last_up_to.Goals as goal
 
@@ -40,3 +40,12 @@ returns-then-not-is_below-2 g c =
     let later = c.is_below.ensures.0 c.if-not-is_below.false in
     let starts = lt-fails c.is_below-2.result _ _ c.is_below-2.ensures c.if-not-is_below-2.true in
     last-lower _ _ _ _ (omega (arith, later)) (omega (arith, starts)) found
+
+-- If no run starts below the bound, there is no run to find.
+pub returns-in_err-last : goal.returns-in_err-last
+returns-in_err-last g c =
+    let none = two-neither g.T.Integer.rank _ _ _ _ c.requires.two.2 c.in_err-last.was in
+    rw c.from_residual.ensures (none-lower _ _ _ (omega (arith, c.requires.two.1)) none)
+
+pub returns : goal.returns
+returns g c = c.up_to.ensures

@@ -1,5 +1,6 @@
-use Rattle.std.proofs.Common.{◌+◌, ap, refl}
+use Rattle.std.proofs.Common.{◌+◌, ap, arith, refl}
 use Rattle.range_set_blaze.proofs.lemmas.insertion.Joining.{joined-hull, joined-joining, reached-has, reached-lacks}
+use Rattle.range_set_blaze.proofs.lemmas.runs.Found.{two-values}
 use Rattle.range_set_blaze.proofs.set.insert.touched.Goals as goal
 
 -- If the first run that the new one reaches ends at or past its end, all of its values are members.
@@ -39,3 +40,24 @@ returns-clause-joining g c =
     c.last_two.result.0 c.last_two.result.1 c.reached_at-first.ensures c.start_of-start.ensures
     c.last_two.ensures.two c.end_of-end.ensures c.past_start.result c.past_start-2.result
     c.past_start.ensures c.past_start-2.ensures short
+
+-- The values that the calls take are of the type.
+pub last_two-requires : goal.last_two-requires
+last_two-requires g c = omega (arith, c.next_or_greatest.ensures, c.requires.value)
+
+pub reached_at-first-requires-clause-two : goal.reached_at-first-requires-clause-two
+reached_at-first-requires-clause-two g c = (
+  g.T.Integer.rank c.next_or_greatest.result + 1,
+  omega (arith, c.next_or_greatest.ensures, c.requires.order, c.requires.value),
+  c.last_two.ensures.two,
+)
+
+pub end_of-end-requires-clause-last : goal.end_of-end-requires-clause-last
+end_of-end-requires-clause-last g c = (two-values g.T.Integer.rank g.T.Integer.value_count
+    c.args.runs.now c.requires.canonical (g.T.Integer.rank c.next_or_greatest.result + 1)
+    c.last_two.result.0 c.last_two.result.1 c.last_two.ensures.two).1
+
+pub past_start-requires-clause-run : goal.past_start-requires-clause-run
+past_start-requires-clause-run g c = (two-values g.T.Integer.rank g.T.Integer.value_count
+    c.args.runs.now c.requires.canonical (g.T.Integer.rank c.next_or_greatest.result + 1)
+    c.last_two.result.0 c.last_two.result.1 c.last_two.ensures.two).0

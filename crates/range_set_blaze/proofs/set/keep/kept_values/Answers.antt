@@ -1,5 +1,4 @@
-use Rattle.std.proofs.Common.{◌≡◌, ◌+◌, ◌<◌, ◌++◌, ◌∷◌, ◌∙◌, [], ap, append-nil, arith, refl}
-use Rattle.range_set_blaze.specs.Storage.{runs_of}
+use Rattle.std.proofs.Common.{◌≡◌, ◌+◌, ◌<◌, ◌++◌, ◌∷◌, ◌∙◌, [], append-nil, arith, refl}
 use Rattle.range_set_blaze.specs.Retain.{left_runs, past_piece}
 use Rattle.range_set_blaze.proofs.lemmas.gathering.AskedValues.{answered-all, answered-next, below-lower, canonical-below, left_runs-next, listed-next, next-member}
 use Rattle.range_set_blaze.proofs.set.keep.kept_values.Goals as goal

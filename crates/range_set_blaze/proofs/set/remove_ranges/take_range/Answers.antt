@@ -1,3 +1,4 @@
+use Rattle.std.proofs.Common.{refl}
 use Rattle.range_set_blaze.specs.Storage.{run_of}
 use Rattle.range_set_blaze.proofs.lemmas.removal.Meeting.{meeting-some, meeting-within, outside-removes, outside-then, some-common}
 use Rattle.range_set_blaze.proofs.set.remove_ranges.take_range.Goals as goal
@@ -26,3 +27,22 @@ returns-clause-removed g c some =
     outside-removes range _ _
     (outside-then range _ _ _ c.in_ok-take_common.ensures.narrowed.outside
     c.take_others.ensures.outside) c.take_others.ensures.none
+
+-- If no run meets the range, the runs are unchanged.
+pub returns-in_default-clause-unchanged : goal.returns-in_default-clause-unchanged
+returns-in_default-clause-unchanged g c none = refl
+
+pub returns-in_default-clause-none : goal.returns-in_default-clause-none
+returns-in_default-clause-none g c none = c.in_default.ensures
+
+pub take_common-requires-clause-meets : goal.take_common-requires-clause-meets
+take_common-requires-clause-meets g c = c.in-Some.ensures
+
+pub take_others-requires-clause-kept : goal.take_others-requires-clause-kept
+take_others-requires-clause-kept g c = c.in_ok-take_common.ensures.narrowed.kept
+
+pub take_others-requires-clause-ends : goal.take_others-requires-clause-ends
+take_others-requires-clause-ends g c = c.in_ok-take_common.ensures.narrowed.ends
+
+pub returns-clause-kept : goal.returns-clause-kept
+returns-clause-kept g c = c.take_others.ensures.kept

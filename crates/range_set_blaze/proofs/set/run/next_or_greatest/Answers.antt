@@ -1,4 +1,4 @@
-use Rattle.std.proofs.Common.{◌≡◌, ℕ, ◌+◌, ◌-◌, ◌<◌, min, Option, Some, None, refl, arith, ◌∙◌, ap}
+use Rattle.std.proofs.Common.{◌≡◌, ℕ, ◌+◌, ◌-◌, ◌<◌, min, Option, Some, None, refl, arith}
 use Rattle.std.specs.Prelude.{◌↔◌, IfSome, IsNone}
 use Rattle.std.specs.Option.{unwrap_or}
 use Rattle.rsb_streams.proofs.lemmas.checking.Comparisons.{next-value}
@@ -16,6 +16,5 @@ next-rank rank n value (Some other) within none next =
 pub returns : goal.returns
 returns g c =
     let next = c.checked_add_one.ensures in
-    ap g.T.Integer.rank c.unwrap_or.ensures
-    ∙ next-rank g.T.Integer.rank g.T.Integer.value_count c.args.value c.checked_add_one.result
-    next.value next.none next.next
+    rw c.unwrap_or.ensures (next-rank g.T.Integer.rank g.T.Integer.value_count c.args.value
+    c.checked_add_one.result next.value next.none next.next)

@@ -1,5 +1,3 @@
-use Rattle.std.proofs.Common.{◌∙◌, ap, sym}
-use Rattle.range_set_blaze.specs.Storage.{runs_of}
 use Rattle.range_set_blaze.proofs.lemmas.order.EndRuns.{first-entry}
 use Rattle.range_set_blaze.proofs.set.runs.Runs.after.Goals as goal
 

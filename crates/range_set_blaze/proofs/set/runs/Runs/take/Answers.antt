@@ -1,6 +1,6 @@
 use Rattle.std.proofs.Common.{◌∙◌, ap, sym, subst}
 use Rattle.range_set_blaze.specs.Storage.{runs_of}
-use Rattle.range_set_blaze.specs.Starts.{without_start, StartsAscendFrom}
+use Rattle.range_set_blaze.specs.Starts.{StartsAscendFrom}
 use Rattle.range_set_blaze.proofs.lemmas.runs.Maps.{runs-remove_entry}
 use Rattle.range_set_blaze.proofs.lemmas.runs.Starts.{starting-ascending}
 use Rattle.range_set_blaze.proofs.set.runs.Runs.take.Goals as goal
