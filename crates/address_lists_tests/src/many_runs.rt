@@ -148,6 +148,7 @@ fn a_set_has_the_addresses_of_many_runs(rt: HostRuntime) -> Result<(), Fail> {
     assert!(rt; list.v4.len() == 210_000 && list.v6.len() == UIntPlusOne::UInt(210_000));
     assert!(rt; has_three_of_eight(&list));
     assert!(rt; list.v4.contains(559_994) && !list.v4.contains(559_995));
+    assert!(rt; list.v6.contains(559_994) && !list.v6.contains(559_995));
     Ok(())
 }
 

@@ -16,12 +16,12 @@ pub(crate) static TEXTS: [&str; 3] = [
 /// The last address of a family.
 const LAST: u32 = u32::MAX;
 
-/// A way to an operation on lists.
+/// How an operation on lists is called.
 #[derive(Clone, Copy)]
 pub(crate) enum Way {
-    /// By `combine`.
+    /// As `combine`, on the lists.
     Combine,
-    /// By the operation on the streams of the lists.
+    /// As its function of `selection`, on the streams of the lists.
     Streams,
 }
 
@@ -186,7 +186,7 @@ pub(crate) fn is_selected<A: Allocator>(
     Ok(are(&list.v4, wanted) && are(&list.v6, &v6(alloc, wanted)?))
 }
 
-/// Returns whether a way to an operation selects these addresses in both families.
+/// Returns whether an operation, called in this way, selects these addresses in both families.
 pub(crate) fn selects(
     alloc: Global,
     way: Way,
@@ -201,8 +201,8 @@ pub(crate) fn selects(
     is_selected(alloc, &list, wanted)
 }
 
-/// Returns the least number of lists from which a way to an operation does not select what the
-/// operation's row says.
+/// Returns the least number of lists from which an operation, called in this way, does not select
+/// what its row says.
 fn first_wrong(
     alloc: Global,
     way: Way,
