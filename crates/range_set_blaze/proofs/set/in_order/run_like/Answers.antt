@@ -14,9 +14,8 @@ returns-clause-run g c =
     let right = subst (λ value. rank value < n) c.end.ensures c.known-end.ensures.value in
     let some = some-ranks (record { matches = g.met.T.Ord.matches_partial_cmp; in_order = g.met.T.Integer.in_order })
     range left right c.if-is_empty.ensures in
-    let is = range-run rank range (record { start = c.known-start.result; end = c.known-end.result })
-    (c.known-start.ensures.same ∙ c.start.ensures) (c.known-end.ensures.same ∙ c.end.ensures) some in
-    is
+    range-run rank range (record { start = c.known-start.result; end = c.known-end.result })
+    (c.known-start.ensures.same ∙ c.start.ensures) (c.known-end.ensures.same ∙ c.end.ensures) some
 
 pub returns-clause-some : goal.returns-clause-some
 returns-clause-some g c =
