@@ -9,7 +9,7 @@ ghost use Rattle.range_set_blaze.specs.Algebra.{ranks_of, AddsPrefixOf, AddsItem
 ghost use Rattle.range_set_blaze.specs.Set.{Adds, IsSetOf};
 
 use crate::set::RangeSetBlaze;
-use crate::set::run::{Run, known};
+use crate::set::run::run_of_range;
 use crate::set::singles::Singles;
 use rsb_integer::Integer;
 use rsb_streams::UnsortedDisjoint;
@@ -59,10 +59,8 @@ impl<T: Integer, A: Allocator + Clone> RangeSetBlaze<T, A> {
             (Adds self.old self.new (covers (interval_of T.rank range))) }
         ensures err { OnErr result (self.new ≡ self.old) }
     {
-        let start = known(*range.start());
-        let end = known(*range.end());
-        if !range.is_empty() {
-            self.insert_run(Run { start, end })?;
+        if let Some(run) = run_of_range(&range) {
+            self.insert_run(run)?;
         }
         Ok(())
     }

@@ -1,16 +1,16 @@
 //! Sets from lists of ranges. A list that is canonical is not sorted.
 
 ghost use Rattle.std.specs.Prelude.{◌≡◌, ◌↔◌, ◌<◌, ◌≤◌, All, IfOk, IfSome, IsTrue};
-ghost use Rattle.rsb_integer.specs.Rank.{interval_of, intervals_of};
-ghost use Rattle.rsb_integer.specs.Runs.{members, HasRanks};
+ghost use Rattle.rsb_integer.specs.Rank.{intervals_of};
+ghost use Rattle.rsb_integer.specs.Runs.{members};
 ghost use Rattle.rsb_streams.specs.OutOfPlace.{start_after};
 ghost use Rattle.rsb_streams.specs.UnsortedDisjoint.{IsProper};
-ghost use Rattle.range_set_blaze.specs.Storage.{run_of, IsKept};
+ghost use Rattle.range_set_blaze.specs.Storage.{IsKept};
 ghost use Rattle.range_set_blaze.specs.Set.{IsSetOf};
 
 use crate::set::RangeSetBlaze;
 use crate::set::lengths::add_length;
-use crate::set::run::{Run, known, reaches};
+use crate::set::run::{reaches, run_of_range};
 use crate::set::runs::Runs;
 use num_traits::Zero;
 use rsb_integer::Integer;
@@ -49,7 +49,7 @@ fn length_in_order<T: Integer>(ranges: &[RangeInclusive<T>]) -> Option<T::SafeLe
     let mut previous = None;
     let mut rest = ranges.iter();
     while let Some(range) = rest.next() {
-        let run = run_like(range)?;
+        let run = run_of_range(range)?;
         if !is_past(previous, run.start) {
             return None;
         }
@@ -57,20 +57,6 @@ fn length_in_order<T: Integer>(ranges: &[RangeInclusive<T>]) -> Option<T::SafeLe
         previous = Some(run.end);
     }
     Some(length)
-}
-
-// Returns the run of a range, or `None` if the range is empty.
-fn run_like<T: Integer>(range: &RangeInclusive<T>) -> Option<Run<T>>
-    ensures run { IfSome result (λ run. run_of T.rank run ≡ interval_of T.rank range.now) }
-    ensures some { IfSome result (λ run. HasRanks (run_of T.rank run)) }
-    ensures value { IfSome result (λ run. T.rank run.end < T.value_count) }
-{
-    let start = known(*range.start());
-    let end = known(*range.end());
-    if range.is_empty() {
-        return None;
-    }
-    Some(Run { start, end })
 }
 
 // Returns whether a value lies past the end before it, with a gap between, if there is such an end.

@@ -6,7 +6,7 @@
 ghost use Rattle.std.specs.Prelude.{◌≡◌};
 ghost use Rattle.range_set_blaze.specs.Lent.{lent_steps, HaveSameRanks};
 
-use crate::set::run::known;
+use crate::set::run::run_of_range;
 use rsb_integer::Integer;
 use std::ops::RangeInclusive;
 
@@ -45,10 +45,8 @@ impl<'a, T: Integer + 'a, I: Iterator<Item = &'a RangeInclusive<T>>> Iterator fo
 pub(crate) fn range_like<T: Integer>(range: &RangeInclusive<T>) -> RangeInclusive<T>
     ensures { HaveSameRanks T.rank result range.now }
 {
-    let start = known(*range.start());
-    let end = known(*range.end());
-    if range.is_empty() {
+    let Some(run) = run_of_range(range) else {
         return T::exhausted_range();
-    }
-    start..=end
+    };
+    run.start..=run.end
 }

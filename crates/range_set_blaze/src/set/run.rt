@@ -4,8 +4,12 @@
 //! `RangeInclusive`, which has a flag that a run does not need, and is not `Copy`.
 
 ghost use Rattle.std.specs.Prelude.{◌≡◌, ◌↔◌, ◌+◌, ◌-◌, ◌<◌, ◌≤◌, max, min, IfSome, IsNone, IsTrue};
+ghost use Rattle.rsb_integer.specs.Rank.{interval_of};
+ghost use Rattle.rsb_integer.specs.Runs.{HasNoRanks, HasRanks};
+ghost use Rattle.range_set_blaze.specs.Storage.{run_of};
 
 use rsb_integer::Integer;
+use std::ops::RangeInclusive;
 
 /// A run: its first and its last value.
 #[derive(Clone, Copy, Debug)]
@@ -32,6 +36,21 @@ impl<T: Integer> Run<T> {
     {
         is_below(self.end, value)
     }
+}
+
+/// Returns the run of a range, or `None` if the range is empty.
+pub(crate) fn run_of_range<T: Integer>(range: &RangeInclusive<T>) -> Option<Run<T>>
+    ensures run { IfSome result (λ run. run_of T.rank run ≡ interval_of T.rank range.now) }
+    ensures some { IfSome result (λ run. HasRanks (run_of T.rank run)) }
+    ensures value { IfSome result (λ run. T.rank run.end < T.value_count) }
+    ensures none { IsNone result → HasNoRanks (interval_of T.rank range.now) }
+{
+    let start = known(*range.start());
+    let end = known(*range.end());
+    if range.is_empty() {
+        return None;
+    }
+    Some(Run { start, end })
 }
 
 /// Returns the value itself. The clause `value` states that the rank of the value is below the

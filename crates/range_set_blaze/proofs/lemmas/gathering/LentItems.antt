@@ -1,7 +1,6 @@
 -- Values and ranges that an iterator gives by reference, and the same by value.
 use denote.Ref.{Bor}
-use Rattle.std.proofs.Common.{◌≡◌, ◌||◌, ℕ, List, [], ◌∷◌, refl, sym, ap, subst, ◌∙◌, arith}
-use Rattle.std.proofs.lemmas.Bool.Decides.{nat_tests}
+use Rattle.std.proofs.Common.{◌≡◌, ◌||◌, ℕ, List, [], ◌∷◌, refl, sym, ap, subst, ◌∙◌}
 use Rattle.std.specs.Iterator.{Yields}
 use Rattle.std.specs.Iterator.Adapters.{copied_source, copied_steps}
 use Rattle.std.specs.Option.{option_copied}
@@ -9,18 +8,13 @@ use Rattle.std.specs.Prelude.{Option, None, Some}
 use Rattle.std.specs.declared.iter.Copied.{Copied}
 use Rattle.std.specs.declared.ops.RangeInclusive.{RangeInclusive}
 use Rattle.rsb_integer.specs.Rank.{interval_of, intervals_of}
-use Rattle.rsb_integer.specs.Runs.{Interval, covers, members, HasNoRanks}
+use Rattle.rsb_integer.specs.Runs.{Interval, members}
 use Rattle.rsb_integer.proofs.lemmas.Members.{members-cons}
 use Rattle.rsb_streams.specs.Items.{GaveAll}
 use Rattle.range_set_blaze.specs.Algebra.{IsSetOfItems}
 use Rattle.range_set_blaze.specs.Lent.{lent_steps, pointed_to}
 use Rattle.range_set_blaze.specs.Set.{IsSetOf}
 use Rattle.range_set_blaze.specs.declared.set.lent_ranges.LentRanges.{LentRanges}
-
--- Intervals without ranks cover the same ranks, namely none.
-pub same-nothing : (one other : Interval) → HasNoRanks one → HasNoRanks other → (point : ℕ)
-    → covers one point ≡ covers other point
-same-nothing one other empty none point = grind (arith, nat_tests)
 
 module _ {T : Type 0} where
   -- A value that was copied is one that a reference points to.
