@@ -2,9 +2,8 @@
 //! rows worked by hand.
 
 use crate::many::forms::{makes_one, subset};
-use crate::many::sets::{both_make, sets_of};
-use crate::many::stream_lists::{list_gives, ranges_of};
-use rsb_tables::{Form, Ranges, Table};
+use crate::many::sets::both_make;
+use rsb_tables::{Form, Ranges, Table, form_gives, set_of};
 use std::alloc::{AllocError, Global};
 use std::test::Fail;
 
@@ -20,10 +19,12 @@ static DEPTHS: [Table<'static>; 5] = [
     &[],
 ];
 
-/// Whether a form of the runs of the three sets gives the wanted ranges.
+/// Whether a form of the runs of three sets gives the wanted ranges.
 fn runs_make(alloc: Global, form: Form, wanted: Table<'_>) -> Result<bool, AllocError> {
-    let sets = sets_of(alloc, &THREE)?;
-    list_gives(alloc, form, ranges_of(alloc, &sets)?, wanted)
+    let (a, b) = (set_of(alloc, THREE[0])?, set_of(alloc, THREE[1])?);
+    let c = set_of(alloc, THREE[2])?;
+    let streams = Vec::from_array(alloc, [a.ranges(), b.ranges(), c.ranges()])?;
+    form_gives(alloc, form, streams, wanted)
 }
 
 #[test]

@@ -11,7 +11,7 @@ use std::test::Fail;
 type Set = RangeSetBlaze<i32>;
 
 /// Returns the sets of the tables.
-pub(crate) fn sets_of(alloc: Global, tables: &[Table<'_>]) -> Result<Vec<Set>, AllocError> {
+fn sets_of(alloc: Global, tables: &[Table<'_>]) -> Result<Vec<Set>, AllocError> {
     let mut sets = Vec::new(alloc);
     for table in tables {
         sets.push(set_of(alloc, table)?)?;

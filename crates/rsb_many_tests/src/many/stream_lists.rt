@@ -22,7 +22,7 @@ fn listed(alloc: Global, tables: &[Ranges]) -> Result<Streams<u8, Listed<'static
 }
 
 /// Returns the runs of sets of any element type, as streams.
-pub(crate) fn ranges_of<'a, T: Integer>(
+fn ranges_of<'a, T: Integer>(
     alloc: Global,
     sets: &'a [RangeSetBlaze<T>],
 ) -> Result<Streams<T, RangesIter<'a, T>>, AllocError> {
@@ -71,7 +71,7 @@ fn event_count<T: Integer, I: DrawDisjoint<T>>(
 }
 
 /// Whether a form of the streams gives the ranges with these ends.
-pub(crate) fn list_gives<T: Integer, I: DrawDisjoint<T>, A: Allocator + Copy>(
+fn list_gives<T: Integer, I: DrawDisjoint<T>, A: Allocator + Copy>(
     alloc: A,
     form: Form,
     streams: Streams<T, I, A>,
