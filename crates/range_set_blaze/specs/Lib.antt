@@ -9,12 +9,9 @@ pub mod HashLaws
 pub mod Joining
 pub mod Lent
 pub mod Multiway
-pub mod NumberLaws
-pub mod Numbers
 pub mod Order
 pub mod OrderLaws
 pub mod Ranked
-pub mod Reading
 pub mod Removal
 pub mod RemoveRanges
 pub mod Retain
@@ -23,7 +20,6 @@ pub mod Singles
 pub mod Split
 pub mod Starts
 pub mod Storage
-pub mod Text
 pub mod Windows
 pub mod Written
 pub use Rattle.rsb_length.specs.SafeLength
@@ -34,6 +30,9 @@ pub use Rattle.rsb_integer.specs.Rank
 pub use Rattle.rsb_integer.specs.Room
 pub use Rattle.rsb_integer.specs.Runs
 pub use Rattle.rsb_integer.specs.Selection
+pub use Rattle.rsb_text.specs.NumberLaws
+pub use Rattle.rsb_text.specs.Numbers
+pub use Rattle.rsb_text.specs.Text
 pub use Rattle.rsb_streams.specs.Adapters
 pub use Rattle.rsb_streams.specs.Ascending
 pub use Rattle.rsb_streams.specs.AscendingLaws

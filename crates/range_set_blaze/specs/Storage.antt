@@ -1,9 +1,10 @@
 -- The representation of a set: a map from the starts of its runs to their ends, and its length.
-use Rattle.std.specs.Prelude.{◌≡◌, ℕ, false, List, map}
+use Rattle.std.specs.Prelude.{◌≡◌, ℕ, List, map}
 use Rattle.std.specs.declared.ops.RangeInclusive.{RangeInclusive}
 use Rattle.rsb_integer.specs.Runs.{Interval, members, IsCanonicalIn}
 use Rattle.rsb_integer.specs.Selection.{count}
 use Rattle.range_set_blaze.specs.declared.set.run.Run.{Run}
+pub use Rattle.rsb_text.specs.Text.{range_of}
 
 -- The interval of the ranks of a run.
 abbrev pub run_of : {T : Type 0} → (T → ℕ) → Run T → Interval
@@ -20,10 +21,6 @@ entry_run rank entry = record { first = rank entry.0; last = rank entry.1 }
 -- The intervals of the ranks of the runs of entries.
 abbrev pub runs_of : {T : Type 0} → (T → ℕ) → List (T × T) → List Interval
 runs_of rank entries = map (entry_run rank) entries
-
--- The run of an entry, as a range of values.
-abbrev pub range_of : {T : Type 0} → T × T → RangeInclusive T
-range_of entry = record { start = entry.0; end = entry.1; exhausted = false }
 
 -- The runs of entries, as ranges of values.
 abbrev pub ranges_of : {T : Type 0} → List (T × T) → List (RangeInclusive T)

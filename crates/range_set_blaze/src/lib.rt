@@ -10,7 +10,6 @@ pub mod laws;
 mod macros;
 pub mod multiway;
 mod operators;
-pub mod parse_integer;
 pub mod prelude;
 pub mod ranges_in;
 pub mod ranges_iter;

@@ -14,11 +14,9 @@ pub use crate::laws::{
     order_by_least_difference, run_bounds_are_ends, some_list_of_events, symmetric_by_union,
 };
 pub use crate::multiway::{MultiwayRangeSetBlaze, MultiwayRangeSetBlazeRef};
-pub use crate::parse_integer::ParseInteger;
 pub use crate::ranges_in::RangesIn;
 pub use crate::ranges_iter::RangesIter;
 pub use crate::set::RangeSetBlaze;
-pub use crate::set::parse::ParseError;
 pub use crate::{intersection_dyn, symmetric_difference_dyn, union_dyn};
 pub use rsb_integer::{Element, Enumerated, Integer};
 pub use rsb_length::{SafeLength, UInt, UIntPlusOne};
@@ -32,3 +30,4 @@ pub use rsb_streams::{
     RangeOnce, SortedDisjoint, SortedStarts, SortedStartsInVec, SortedTouching, SymDiffIter,
     SymmetricDifference, Union, UnionIter,
 };
+pub use rsb_text::{ParseError, ParseInteger};

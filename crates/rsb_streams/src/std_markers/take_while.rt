@@ -7,8 +7,9 @@ ghost use Rattle.rsb_streams.specs.PartLaws.{front-is_part, part-canonical};
 
 use crate::draw::Draw;
 use crate::sorted_disjoint::{DrawDisjoint, SortedDisjoint, SortedStarts};
+use crate::std_markers::closure_laws::{GivesCanonical, NextDraws};
 use rsb_integer::Integer;
-use std::iter::TakeWhile;
+use std::iter::{FusedIterator, TakeWhile};
 use std::ops::RangeInclusive;
 
 impl<
@@ -38,9 +39,9 @@ impl<
         I.answers I.sorted ready.drawn P.FnMut s ready };
 }
 
-impl<T: Integer, I: SortedStarts<T>, P: FnMut(&RangeInclusive<T>) -> bool> SortedStarts<T>
+impl<T: Integer, I: SortedStarts<T>, P: FnMut(&RangeInclusive<T>) -> bool> NextDraws<T>
     for TakeWhile<I, P> {
-    fn mark_sorted(&self) {}
+    fn mark(&self) {}
 
     ghost drawn = { take_while-drawn T.Integer.own ⟦<I as Draw<T>>⟧ ⟦<I as Iterator>⟧ I.answers
         I.sorted I.drawn P.FnMut };
@@ -50,11 +51,25 @@ impl<
     T: Integer,
     I: Iterator<Item = RangeInclusive<T>> + DrawDisjoint<T>,
     P: FnMut(&RangeInclusive<T>) -> bool,
-> DrawDisjoint<T> for TakeWhile<I, P> {
-    fn mark_disjoint(&self) {}
+> GivesCanonical<T> for TakeWhile<I, P> {
+    fn mark(&self) {}
 
     ghost canonical = { λ s ready. part-canonical T.value_count (front-is_part (take_while_done s))
         (I.may_give (take_while_source s)) (I.canonical (take_while_source s) ready.source) };
+}
+
+impl<T: Integer, I: Drop, P: Drop> SortedStarts<T> for TakeWhile<I, P>
+where
+    TakeWhile<I, P>: NextDraws<T> + FusedIterator,
+{
+    ghost drawn = { ⟦<TakeWhile<I, P> as NextDraws<T>>⟧.drawn };
+}
+
+impl<T: Integer, I: Drop, P: Drop> DrawDisjoint<T> for TakeWhile<I, P>
+where
+    TakeWhile<I, P>: GivesCanonical<T>,
+{
+    ghost canonical = { ⟦<TakeWhile<I, P> as GivesCanonical<T>>⟧.canonical };
 }
 
 impl<T: Integer, I: Drop, P: Drop> SortedDisjoint<T> for TakeWhile<I, P>

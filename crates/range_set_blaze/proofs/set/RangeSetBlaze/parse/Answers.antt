@@ -3,9 +3,9 @@ use Rattle.std.specs.declared.ops.RangeInclusive.{RangeInclusive}
 use Rattle.rsb_integer.specs.Rank.{intervals_of}
 use Rattle.rsb_integer.specs.Runs.{members}
 use Rattle.range_set_blaze.specs.Set.{IsSetOf}
-use Rattle.range_set_blaze.specs.Text.{IsFirstUnexpected, Spells}
-use Rattle.range_set_blaze.specs.declared.set.parse.ParseError.TheVariants.{Unexpected}
-use Rattle.range_set_blaze.proofs.lemmas.texts.Read.{unexpected-none}
+use Rattle.rsb_text.specs.Text.{IsFirstUnexpected, Spells}
+use Rattle.rsb_text.specs.declared.parse_error.ParseError.TheVariants.{Unexpected}
+use Rattle.rsb_text.proofs.lemmas.Read.{unexpected-none}
 use Rattle.range_set_blaze.proofs.lemmas.texts.Reread.{ranges_of_runs, runs-spelled, set-reread}
 use Rattle.range_set_blaze.proofs.set.RangeSetBlaze.parse.Goals as goal
 

@@ -7,8 +7,8 @@ use Rattle.std.proofs.Common.{arith, refl, lit<}
 use Rattle.std.proofs.lemmas.Bool.Decides.{nat_tests}
 use Rattle.std.proofs.lemmas.Nat.{pow_pos}
 use Rattle.rsb_integer.specs.Rank.{signed_rank}
-use Rattle.range_set_blaze.specs.Numbers.{AreNumbers}
-use Rattle.range_set_blaze.specs.Text.{signed_by}
+use Rattle.rsb_text.specs.Numbers.{AreNumbers}
+use Rattle.rsb_text.specs.Text.{signed_by}
 use mir.Val.{hbits}
 
 below : (a b c d : ℕ) → a < b → b ≤ c → c < d → a < d

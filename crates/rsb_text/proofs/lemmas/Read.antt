@@ -4,12 +4,12 @@ use Rattle.std.proofs.Math.Seq.{take-length}
 use Rattle.std.proofs.lemmas.Bool.{cases_lt}
 use Rattle.std.proofs.lemmas.List.{take_more, take-append-drop}
 use Rattle.std.specs.declared.ops.RangeInclusive.{RangeInclusive}
-use Rattle.range_set_blaze.specs.Storage.{range_of}
-use Rattle.range_set_blaze.specs.Reading.{Finishes, Follows, HasRead, Steps}
-use Rattle.range_set_blaze.specs.Text.{HasDigit, IsFirstUnexpected, Spells}
-use Rattle.range_set_blaze.specs.declared.set.parse.Place.{Place}
-use Rattle.range_set_blaze.specs.declared.set.parse.Place.TheVariants.{Start, Before, Signed, Digits, Behind, Dot, Dots}
-use Rattle.range_set_blaze.proofs.lemmas.texts.Places.{start-end}
+use Rattle.rsb_text.specs.Text.{range_of}
+use Rattle.rsb_text.specs.Reading.{Finishes, Follows, HasRead, Steps}
+use Rattle.rsb_text.specs.Text.{HasDigit, IsFirstUnexpected, Spells}
+use Rattle.rsb_text.specs.declared.ranges.Place.{Place}
+use Rattle.rsb_text.specs.declared.ranges.Place.TheVariants.{Start, Before, Signed, Digits, Behind, Dot, Dots}
+use Rattle.rsb_text.proofs.lemmas.Places.{start-end}
 
 -- A text that may follow at a place, and the ranges that it spells from there.
 pub record CanGoOn {T : Type 0} (number : T → ℤ) (fits : ℤ → Type 0) (place : Place T) : Type 0 where

@@ -1,7 +1,7 @@
 -- Element types whose values are whole numbers, written in decimal.
 use Rattle.std.specs.Prelude.{◌≡◌, ℕ, ℤ, ◌^◌, ◌<◌, ◌≤◌, Bool, List, Option, Some, unsigned_abs}
 use Rattle.std.specs.Fmt.{signed_decimal}
-use Rattle.range_set_blaze.specs.Text.{signed_by}
+use Rattle.rsb_text.specs.Text.{signed_by}
 
 -- Whether each number of the type is one value, which is written in decimal. If a number is of the
 -- type, so is every number of the same sign and smaller magnitude.

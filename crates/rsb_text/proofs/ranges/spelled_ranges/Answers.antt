@@ -1,9 +1,9 @@
 use Rattle.std.proofs.Common.{◌≡◌, ℕ, ◌∷◌, length, sym, ◌∙◌, subst}
-use Rattle.range_set_blaze.specs.Reading.{Follows}
-use Rattle.range_set_blaze.specs.Text.{IsFirstUnexpected}
-use Rattle.range_set_blaze.proofs.lemmas.texts.Read.{has_read-nil, has_read-more, has_read-comma, has_read-all, spells-none, only-none, spells-last, only-last, unexpected_byte, unexpected_end}
-use Rattle.range_set_blaze.proofs.set.parse.spelled_ranges.Goals as goal
-use Rattle.range_set_blaze.proofs.set.parse.spelled_ranges.Goals.{then-byte-eq44+in-Some+in_ok-push, else-byte-eq44+in-Some-after}
+use Rattle.rsb_text.specs.Reading.{Follows}
+use Rattle.rsb_text.specs.Text.{IsFirstUnexpected}
+use Rattle.rsb_text.proofs.lemmas.Read.{has_read-nil, has_read-more, has_read-comma, has_read-all, spells-none, only-none, spells-last, only-last, unexpected_byte, unexpected_end}
+use Rattle.rsb_text.proofs.ranges.spelled_ranges.Goals as goal
+use Rattle.rsb_text.proofs.ranges.spelled_ranges.Goals.{then-byte-eq44+in-Some+in_ok-push, else-byte-eq44+in-Some-after}
 
 pub loop-at-init : goal.loop-at-init
 loop-at-init g c = rw c.new-ranges.ensures.items (has_read-nil g.T.ParseInteger.number g.T.ParseInteger.fits)

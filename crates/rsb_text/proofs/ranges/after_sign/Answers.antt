@@ -1,5 +1,5 @@
-use Rattle.range_set_blaze.proofs.lemmas.texts.Places.{signed-found}
-use Rattle.range_set_blaze.proofs.set.parse.after_sign.Goals as goal
+use Rattle.rsb_text.proofs.lemmas.Places.{signed-found}
+use Rattle.rsb_text.proofs.ranges.after_sign.Goals as goal
 
 -- The first digit leads to its number.
 pub returns : goal.returns

@@ -1,5 +1,5 @@
-use Rattle.range_set_blaze.proofs.lemmas.texts.Places.{behind-finishes, digits-finishes}
-use Rattle.range_set_blaze.proofs.set.parse.finished.Goals as goal
+use Rattle.rsb_text.proofs.lemmas.Places.{behind-finishes, digits-finishes}
+use Rattle.rsb_text.proofs.ranges.finished.Goals as goal
 
 pub returns-in-Digits : goal.returns-in-Digits
 returns-in-Digits g c = rw (c.in-Digits.is, c.range_to.ensures)

@@ -1,6 +1,6 @@
 use Rattle.std.proofs.Common.{sym, ◌∙◌}
-use Rattle.range_set_blaze.proofs.lemmas.texts.Places.{behind-blank, behind-dot, behind-none, behind-third}
-use Rattle.range_set_blaze.proofs.set.parse.after_number.Goals as goal
+use Rattle.rsb_text.proofs.lemmas.Places.{behind-blank, behind-dot, behind-none, behind-third}
+use Rattle.rsb_text.proofs.ranges.after_number.Goals as goal
 
 pub returns-then-is_blank : goal.returns-then-is_blank
 returns-then-is_blank g c = behind-blank g.T.ParseInteger.number g.T.ParseInteger.fits c.args.start

@@ -1,6 +1,6 @@
 use Rattle.std.proofs.Common.{take}
-use Rattle.range_set_blaze.specs.Reading.{HasRead}
-use Rattle.range_set_blaze.proofs.set.parse.spelled_ranges.Given as goal
+use Rattle.rsb_text.specs.Reading.{HasRead}
+use Rattle.rsb_text.proofs.ranges.spelled_ranges.Given as goal
 
 -- The bytes read so far spell the ranges and lead to the place.
 abbrev pub invariant-loop-at : goal.invariant-loop-at

@@ -1,7 +1,7 @@
 use Rattle.std.proofs.Common.{false}
-use Rattle.range_set_blaze.specs.declared.set.parse.Place.TheVariants.{Before, Signed}
-use Rattle.range_set_blaze.proofs.lemmas.texts.Places.{before-plus, before-minus, before-bare, leads-back}
-use Rattle.range_set_blaze.proofs.set.parse.after_blanks.Goals as goal
+use Rattle.rsb_text.specs.declared.ranges.Place.TheVariants.{Before, Signed}
+use Rattle.rsb_text.proofs.lemmas.Places.{before-plus, before-minus, before-bare, leads-back}
+use Rattle.rsb_text.proofs.ranges.after_blanks.Goals as goal
 
 pub returns-then-byte-eq43 : goal.returns-then-byte-eq43
 returns-then-byte-eq43 g c = before-plus g.T.ParseInteger.number g.T.ParseInteger.fits c.args.start c.args.byte c.if-byte-eq43.true

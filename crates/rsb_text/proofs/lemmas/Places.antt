@@ -4,11 +4,11 @@ use Rattle.std.proofs.lemmas.Bool.{false≢true}
 use Rattle.std.proofs.lemmas.Bool.Decides.{nat_tests}
 use Rattle.std.specs.Char.{digit_value}
 use Rattle.std.specs.declared.ops.RangeInclusive.{RangeInclusive}
-use Rattle.range_set_blaze.specs.Storage.{range_of}
-use Rattle.range_set_blaze.specs.Reading.{Finishes, Follows, NextThen, Steps, start_or}
-use Rattle.range_set_blaze.specs.Text.{BlanksThen, HasDigit, NumberThen, NumeralThen, OthersFollow, is_blank, signed_by}
-use Rattle.range_set_blaze.specs.declared.set.parse.Place.{Place}
-use Rattle.range_set_blaze.specs.declared.set.parse.Place.TheVariants.{Start, Before, Signed, Digits, Behind, Dot, Dots}
+use Rattle.rsb_text.specs.Text.{range_of}
+use Rattle.rsb_text.specs.Reading.{Finishes, Follows, NextThen, Steps, start_or}
+use Rattle.rsb_text.specs.Text.{BlanksThen, HasDigit, NumberThen, NumeralThen, OthersFollow, is_blank, signed_by}
+use Rattle.rsb_text.specs.declared.ranges.Place.{Place}
+use Rattle.rsb_text.specs.declared.ranges.Place.TheVariants.{Start, Before, Signed, Digits, Behind, Dot, Dots}
 
 -- ---- bytes
 

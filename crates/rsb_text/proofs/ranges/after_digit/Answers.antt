@@ -1,7 +1,7 @@
 use Rattle.std.proofs.Common.{refl}
-use Rattle.range_set_blaze.proofs.lemmas.texts.Places.{digits-ended, digits-found, digits-lacking, leads-back}
-use Rattle.range_set_blaze.specs.declared.set.parse.Place.TheVariants.{Behind, Digits}
-use Rattle.range_set_blaze.proofs.set.parse.after_digit.Goals as goal
+use Rattle.rsb_text.proofs.lemmas.Places.{digits-ended, digits-found, digits-lacking, leads-back}
+use Rattle.rsb_text.specs.declared.ranges.Place.TheVariants.{Behind, Digits}
+use Rattle.rsb_text.proofs.ranges.after_digit.Goals as goal
 
 -- A byte that is not a digit leads where it would lead after a blank that follows the number.
 pub returns-in_default : goal.returns-in_default

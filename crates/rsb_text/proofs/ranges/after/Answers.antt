@@ -1,7 +1,7 @@
 use Rattle.std.proofs.Common.{None, sym, ◌∙◌}
-use Rattle.range_set_blaze.specs.declared.set.parse.Place.TheVariants.{Before, Start}
-use Rattle.range_set_blaze.proofs.lemmas.texts.Places.{leads-back, start-full}
-use Rattle.range_set_blaze.proofs.set.parse.after.Goals as goal
+use Rattle.rsb_text.specs.declared.ranges.Place.TheVariants.{Before, Start}
+use Rattle.rsb_text.proofs.lemmas.Places.{leads-back, start-full}
+use Rattle.rsb_text.proofs.ranges.after.Goals as goal
 
 -- At the start of a text, a byte that is not blank leads where it would lead before a number.
 pub returns-else-is_blank : goal.returns-else-is_blank

@@ -1,9 +1,9 @@
 -- What may come next at a place in text that lists ranges.
 use Rattle.std.specs.Prelude.{◌≡◌, ◌≢◌, ◌↔◌, ℕ, ℤ, ◌++◌, List, [], ◌∷◌, Option, Some, None, MatchOption}
 use Rattle.std.specs.declared.ops.RangeInclusive.{RangeInclusive}
-use Rattle.range_set_blaze.specs.Text.{BlanksThen, DigitsThen, EndThen, NumberThen, NumeralThen, OthersFollow, Spells, StartThen, Then}
-use Rattle.range_set_blaze.specs.declared.set.parse.Place.{Place}
-use Rattle.range_set_blaze.specs.declared.set.parse.Place.TheVariants.{Start, Before, Signed, Digits, Behind, Dot, Dots}
+use Rattle.rsb_text.specs.Text.{BlanksThen, DigitsThen, EndThen, NumberThen, NumeralThen, OthersFollow, Spells, StartThen, Then}
+use Rattle.rsb_text.specs.declared.ranges.Place.{Place}
+use Rattle.rsb_text.specs.declared.ranges.Place.TheVariants.{Start, Before, Signed, Digits, Behind, Dot, Dots}
 
 -- The start of a range that ends with this number: the number it began with, if there is one, and
 -- otherwise this number.

@@ -1,0 +1,3 @@
+-- Reading texts of ranges.
+pub mod Places
+pub mod Read
