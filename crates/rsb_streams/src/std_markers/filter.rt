@@ -1,6 +1,7 @@
 //! `Filter` over a stream is a stream: it gives the ranges that pass a test.
 
 ghost use Rattle.std.specs.Iterator.Adapters.{filter_source};
+ghost use Rattle.std.proofs.Common.{rules};
 ghost use Rattle.rsb_streams.specs.AdapterLaws.{filter-drawn, filter-sorted};
 ghost use Rattle.rsb_streams.specs.Adapters.{filter_draws};
 ghost use Rattle.rsb_streams.specs.PartLaws.{part-canonical, sublist-is_part};
@@ -62,14 +63,14 @@ impl<T: Integer, I: Drop, P: Drop> SortedStarts<T> for Filter<I, P>
 where
     Filter<I, P>: NextDraws<T> + FusedIterator,
 {
-    ghost drawn = { ⟦<Filter<I, P> as NextDraws<T>>⟧.drawn };
+    ghost drawn = { Prim.search rules };
 }
 
 impl<T: Integer, I: Drop, P: Drop> DrawDisjoint<T> for Filter<I, P>
 where
     Filter<I, P>: GivesCanonical<T>,
 {
-    ghost canonical = { ⟦<Filter<I, P> as GivesCanonical<T>>⟧.canonical };
+    ghost canonical = { Prim.search rules };
 }
 
 impl<T: Integer, I: Drop, P: Drop> SortedDisjoint<T> for Filter<I, P>

@@ -2,6 +2,7 @@
 //! after it.
 
 ghost use Rattle.std.specs.Iterator.Adapters.{skip_while_done_skipping, skip_while_source};
+ghost use Rattle.std.proofs.Common.{rules};
 ghost use Rattle.rsb_streams.specs.AdapterLaws.{skip_while-drawn, skip_while-sorted};
 ghost use Rattle.rsb_streams.specs.Adapters.{skip_while_draws};
 ghost use Rattle.rsb_streams.specs.PartLaws.{part-canonical, rest-is_part};
@@ -64,14 +65,14 @@ impl<T: Integer, I: Drop, P: Drop> SortedStarts<T> for SkipWhile<I, P>
 where
     SkipWhile<I, P>: NextDraws<T> + FusedIterator,
 {
-    ghost drawn = { ⟦<SkipWhile<I, P> as NextDraws<T>>⟧.drawn };
+    ghost drawn = { Prim.search rules };
 }
 
 impl<T: Integer, I: Drop, P: Drop> DrawDisjoint<T> for SkipWhile<I, P>
 where
     SkipWhile<I, P>: GivesCanonical<T>,
 {
-    ghost canonical = { ⟦<SkipWhile<I, P> as GivesCanonical<T>>⟧.canonical };
+    ghost canonical = { Prim.search rules };
 }
 
 impl<T: Integer, I: Drop, P: Drop> SortedDisjoint<T> for SkipWhile<I, P>

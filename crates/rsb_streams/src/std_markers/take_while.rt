@@ -1,6 +1,7 @@
 //! `TakeWhile` over a stream is a stream: it gives the ranges before the first that fails a test.
 
 ghost use Rattle.std.specs.Iterator.Adapters.{take_while_done, take_while_source};
+ghost use Rattle.std.proofs.Common.{rules};
 ghost use Rattle.rsb_streams.specs.AdapterLaws.{take_while-drawn, take_while-sorted};
 ghost use Rattle.rsb_streams.specs.Adapters.{take_while_draws};
 ghost use Rattle.rsb_streams.specs.PartLaws.{front-is_part, part-canonical};
@@ -62,14 +63,14 @@ impl<T: Integer, I: Drop, P: Drop> SortedStarts<T> for TakeWhile<I, P>
 where
     TakeWhile<I, P>: NextDraws<T> + FusedIterator,
 {
-    ghost drawn = { ⟦<TakeWhile<I, P> as NextDraws<T>>⟧.drawn };
+    ghost drawn = { Prim.search rules };
 }
 
 impl<T: Integer, I: Drop, P: Drop> DrawDisjoint<T> for TakeWhile<I, P>
 where
     TakeWhile<I, P>: GivesCanonical<T>,
 {
-    ghost canonical = { ⟦<TakeWhile<I, P> as GivesCanonical<T>>⟧.canonical };
+    ghost canonical = { Prim.search rules };
 }
 
 impl<T: Integer, I: Drop, P: Drop> SortedDisjoint<T> for TakeWhile<I, P>
