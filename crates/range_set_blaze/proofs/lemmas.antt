@@ -3,12 +3,9 @@ pub mod elements
 pub mod fitting
 pub mod gathering
 pub mod insertion
-pub mod look_up
 pub mod order
 pub mod ranking
 pub mod removal
 pub mod retaining
 pub mod runs
-pub mod splitting
 pub mod texts
-pub mod windows

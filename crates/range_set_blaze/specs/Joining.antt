@@ -2,10 +2,10 @@
 use Rattle.std.specs.Prelude.{◌≡◌, ℕ, true, false, ◌||◌, ◌+◌, ◌<◌, ◌≤◌, List, Option, MatchOption, Contains, IsTrue}
 use Rattle.rsb_integer.specs.Runs.{Interval, covers, members, IsCanonicalIn}
 use Rattle.rsb_integer.specs.Selection.{Selection, count, LacksSome}
-use Rattle.range_set_blaze.specs.Storage.{run_of, IsKept}
-use Rattle.range_set_blaze.specs.Set.{Adds}
-use Rattle.range_set_blaze.specs.Starts.{with_run}
-use Rattle.range_set_blaze.specs.declared.set.run.Run.{Run}
+use Rattle.rsb_runs.specs.Storage.{run_of, IsKept}
+use Rattle.rsb_runs.specs.Set.{Adds}
+use Rattle.rsb_runs.specs.Starts.{with_run}
+use Rattle.rsb_runs.specs.declared.run.Run.{Run}
 use Rattle.range_set_blaze.specs.declared.set.insert.Joining.{Joining}
 
 -- ---- runs that start inside another
@@ -79,10 +79,6 @@ module _ {T : Type 0} (rank : T → ℕ) (n : ℕ) (runs : List Interval) where
     pub inside : KnowsInside rank runs (run_of rank joining.joined) joining.last joining.before
 
 -- ---- what an insertion does
-
--- Whether every selected rank is a member.
-abbrev pub HasAll : List Interval → Selection → Type 0
-HasAll set selected = (rank : ℕ) → IsTrue (selected rank) → IsTrue (members set rank)
 
 -- Whether the new runs and the length represent a set: the members of the old runs, and those of the
 -- added one. Some rank of that run was not a member before.

@@ -5,9 +5,9 @@ ghost use Rattle.rsb_integer.specs.Runs.{members};
 ghost use Rattle.rsb_integer.specs.Selection.{count};
 ghost use Rattle.range_set_blaze.specs.BothEnds.{TakesGreatest, TakesLeast};
 
-use crate::into_ranges_iter::IntoRangesIter;
 use crate::iter::Iter;
 use rsb_integer::Integer;
+use rsb_runs::into_ranges_iter::IntoRangesIter;
 use std::alloc::{Allocator, Global};
 use std::iter::FusedIterator;
 use std::marker::Model;

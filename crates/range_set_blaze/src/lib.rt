@@ -1,18 +1,13 @@
 //! Sets of integers, kept as their maximal runs.
 #![tactic(auto)]
 
-pub mod gaps_in;
 pub mod into_iter;
 pub mod into_range_set_blaze;
-pub mod into_ranges_iter;
 pub mod iter;
 pub mod laws;
 mod macros;
 pub mod multiway;
-mod operators;
 pub mod prelude;
-pub mod ranges_in;
-pub mod ranges_iter;
 pub mod set;
 
 pub use crate::prelude::{

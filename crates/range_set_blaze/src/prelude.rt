@@ -2,10 +2,8 @@
 //! `UnsortedDisjoint` and what the macros call. `use range_set_blaze::prelude::*;` imports them all
 //! (docs/DECISIONS.md, names-listed).
 
-pub use crate::gaps_in::GapsIn;
 pub use crate::into_iter::IntoIter;
 pub use crate::into_range_set_blaze::IntoRangeSetBlaze;
-pub use crate::into_ranges_iter::IntoRangesIter;
 pub use crate::iter::Iter;
 pub use crate::laws::{
     at_least_all, at_least_falls, at_least_one, canonical_lists_are_runs, cmp_counted,
@@ -14,8 +12,6 @@ pub use crate::laws::{
     order_by_least_difference, run_bounds_are_ends, some_list_of_events, symmetric_by_union,
 };
 pub use crate::multiway::{MultiwayRangeSetBlaze, MultiwayRangeSetBlazeRef};
-pub use crate::ranges_in::RangesIn;
-pub use crate::ranges_iter::RangesIter;
 pub use crate::set::RangeSetBlaze;
 pub use crate::{intersection_dyn, symmetric_difference_dyn, union_dyn};
 pub use rsb_integer::{Element, Enumerated, Integer};
@@ -24,6 +20,7 @@ pub use rsb_many::{
     DynSortedDisjoint, KMerge, MultiwayAtLeast, MultiwayIntersection, MultiwaySortedDisjoint,
     MultiwaySweep, MultiwaySymmetricDifference, MultiwayUnion, Streams, SweepEvent,
 };
+pub use rsb_runs::{GapsIn, IntoRangesIter, RangesIn, RangesIter};
 pub use rsb_streams::{
     AnythingGoes, AssumeSortedStarts, CheckSortedDisjoint, CheckSortedTouching, Difference, Draw,
     DrawDisjoint, FillGapsIter, Intersection, Merge, NotIter, NotSortedDisjoint, NotSortedTouching,

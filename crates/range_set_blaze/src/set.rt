@@ -6,23 +6,20 @@ ghost use Rattle.std.specs.Prelude.{◌≡◌, ◌↔◌, ◌<◌, [], length, I
 ghost use Rattle.rsb_integer.specs.Rank.{intervals_of};
 ghost use Rattle.rsb_integer.specs.Runs.{members, AreRuns, IsCanonicalIn};
 ghost use Rattle.rsb_integer.specs.Selection.{count, IsEmpty};
-ghost use Rattle.range_set_blaze.specs.Set.{IsGreatest, IsLeast};
+ghost use Rattle.rsb_runs.specs.Set.{IsGreatest, IsLeast};
 
 mod algebra;
 mod apart;
 mod assign;
 mod collect;
 pub(crate) mod elements;
-pub(crate) mod entries;
 mod extend;
 mod first_fit;
 mod from_stream;
-mod gaps;
 pub(crate) mod hash;
 mod in_order;
 mod insert;
 mod keep;
-mod lengths;
 mod lent;
 pub(crate) mod lent_ranges;
 mod look_up;
@@ -34,8 +31,6 @@ mod ranked;
 mod remove;
 mod remove_ranges;
 mod retain;
-pub(crate) mod run;
-pub(crate) mod runs;
 pub(crate) mod singles;
 mod split;
 mod subsets;
@@ -44,10 +39,10 @@ mod text;
 pub(crate) mod windows;
 mod windows_asked;
 
-use crate::ranges_iter::RangesIter;
-use crate::set::runs::Runs;
 use num_traits::Zero;
 use rsb_integer::Integer;
+use rsb_runs::ranges_iter::RangesIter;
+use rsb_runs::runs::Runs;
 use std::alloc::{Allocator, Global};
 use std::marker::Model;
 
@@ -65,7 +60,7 @@ pub struct RangeSetBlaze<T: Integer, A: Allocator = Global> {
 impl<T: Integer, A: Allocator> Model for RangeSetBlaze<T, A> {
     ghost use Rattle.std.specs.Prelude.{List};
     ghost use Rattle.rsb_integer.specs.Runs.{Interval};
-    ghost use Rattle.range_set_blaze.specs.Storage.{IsKept};
+    ghost use Rattle.rsb_runs.specs.Storage.{IsKept};
 
     ghost Value = { List Interval };
 
@@ -144,9 +139,7 @@ impl<T: Integer, A: Allocator> RangeSetBlaze<T, A> {
         ensures ready { IsCanonicalIn T.value_count (intervals_of T.rank result) }
         ensures runs { AreRuns T.value_count (members self.now) self.now }
     {
-        RangesIter {
-            entries: self.runs.iter(),
-        }
+        self.runs.ranges()
     }
 
     /// Removes all members. Does not allocate. (`RangeSetBlaze::clear`.)

@@ -7,7 +7,7 @@ use std::alloc::{AllocError, AllocFailed};
 use std::error::Error;
 use std::fmt;
 
-/// The reason why text could not be read as a set. Not in range-set-blaze.
+/// The reason why text could not be read. Not in range-set-blaze.
 #[derive(Clone, Copy, Debug, PartialEq, Eq)]
 pub enum ParseError {
     /// An allocation failed.

@@ -1,5 +1,4 @@
 pub mod Ends
 pub mod GivenRuns
 pub mod Listed
-pub mod Ranges
 pub mod Shortened

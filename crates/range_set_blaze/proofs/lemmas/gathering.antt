@@ -1,6 +1,4 @@
 pub mod AskedValues
-pub mod Filled
-pub mod InOrder
 pub mod LentItems
 pub mod ManySets
 pub mod OneByOne

@@ -4,9 +4,9 @@ ghost use Rattle.std.specs.Prelude.{◌≡◌, ◌++◌, IfOk, IsTrue};
 ghost use Rattle.rsb_integer.specs.Runs.{IsCanonicalIn};
 
 use crate::set::RangeSetBlaze;
-use crate::set::run::{known, reaches};
-use crate::set::runs::Runs;
 use rsb_integer::Integer;
+use rsb_runs::run::{known, reaches};
+use rsb_runs::runs::Runs;
 use std::alloc::{AllocError, Allocator};
 
 /// Returns whether all members of one set lie below those of another, with a gap between.

@@ -1,17 +1,17 @@
 //! Sets from streams of ranges, and back.
 
 ghost use Rattle.std.specs.Prelude.{◌≡◌, IfOk};
-ghost use Rattle.range_set_blaze.specs.Set.{IsSetOf};
-ghost use Rattle.range_set_blaze.specs.Storage.{runs_of, IsKept};
+ghost use Rattle.rsb_runs.specs.Set.{IsSetOf};
+ghost use Rattle.rsb_runs.specs.Storage.{runs_of, IsKept};
 ghost use Rattle.rsb_integer.specs.Rank.{intervals_of, interval_of};
 ghost use Rattle.rsb_integer.specs.Runs.{members, IsCanonicalIn, covers};
 ghost use Rattle.rsb_integer.specs.Selection.{IsUniversal};
 
-use crate::into_ranges_iter::IntoRangesIter;
 use crate::set::RangeSetBlaze;
-use crate::set::runs::Runs;
 use num_traits::Zero;
 use rsb_integer::Integer;
+use rsb_runs::into_ranges_iter::IntoRangesIter;
+use rsb_runs::runs::Runs;
 use rsb_streams::{DrawDisjoint, RangeOnce};
 use std::alloc::{AllocError, Allocator};
 use std::ops::RangeInclusive;
@@ -57,9 +57,7 @@ impl<T: Integer, A: Allocator> RangeSetBlaze<T, A> {
         ensures ranges { intervals_of T.rank result ≡ self }
         ensures ready { IsCanonicalIn T.value_count (intervals_of T.rank result) }
     {
-        IntoRangesIter {
-            entries: self.runs.into_entries(),
-        }
+        self.runs.into_ranges()
     }
 }
 

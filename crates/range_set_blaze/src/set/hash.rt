@@ -6,8 +6,8 @@ ghost use Rattle.range_set_blaze.specs.Hash.{ends_of_runs, hashed_runs, run_boun
 ghost use Rattle.range_set_blaze.specs.HashLaws.{hashed_runs-same};
 
 use crate::set::RangeSetBlaze;
-use crate::set::entries::next_run;
 use rsb_integer::Integer;
+use rsb_runs::entries::next_run;
 use std::alloc::Allocator;
 use std::collections::btree_map::Iter;
 use std::hash::{Hash, Hasher};

@@ -4,14 +4,15 @@ ghost use Rattle.std.specs.Prelude.{◌≡◌, ◌↔◌, ◌<◌, IfSome, IsFal
 ghost use Rattle.rsb_integer.specs.Rank.{interval_of};
 ghost use Rattle.rsb_integer.specs.Runs.{members, IsCanonicalIn};
 ghost use Rattle.rsb_integer.specs.Selection.{complement, IsUniversal};
-ghost use Rattle.range_set_blaze.specs.Storage.{run_of};
-ghost use Rattle.range_set_blaze.specs.Starts.{IsGapEnd};
-ghost use Rattle.range_set_blaze.specs.Set.{IsRunAround};
+ghost use Rattle.rsb_runs.specs.Storage.{run_of};
+ghost use Rattle.rsb_runs.specs.Starts.{IsGapEnd};
+ghost use Rattle.rsb_runs.specs.Set.{IsRunAround};
 
 use crate::set::RangeSetBlaze;
-use crate::set::run::{Run, known};
-use crate::set::runs::Runs;
 use rsb_integer::Integer;
+use rsb_runs::look_up::run_at;
+use rsb_runs::run::{Run, known};
+use rsb_runs::runs::Runs;
 use std::alloc::Allocator;
 use std::ops::RangeInclusive;
 
@@ -76,21 +77,6 @@ impl<T: Integer, A: Allocator> RangeSetBlaze<T, A> {
     {
         self.length == T::safe_len(&(T::min_value()..=T::max_value()))
     }
-}
-
-// Returns the run that contains a value, or `None` if the value is not a member.
-pub(crate) fn run_at<T: Integer, A: Allocator>(runs: &Runs<T, A>, value: T) -> Option<Run<T>>
-    requires canonical { IsCanonicalIn T.value_count runs.now }
-    requires value { T.rank value < T.value_count }
-    ensures none { IsNone result ↔ IsFalse (members runs.now (T.rank value)) }
-    ensures run { IfSome result (λ run. IsRunAround T.value_count (members runs.now) (T.rank value)
-        (run_of T.rank run)) }
-{
-    let run = runs.up_to(value)?;
-    if run.ends_before(value) {
-        return None;
-    }
-    Some(run)
 }
 
 // Returns the last value of the gap that contains `value`.

@@ -4,13 +4,13 @@ ghost use Rattle.std.specs.Prelude.{◌≡◌, ◌↔◌, ℕ, ◌+◌, ◌≤�
 ghost use Rattle.std.specs.declared.cmp.Ordering.TheVariants.{Greater, Less};
 ghost use Rattle.rsb_integer.specs.Runs.{Interval, members, IsCanonicalIn};
 ghost use Rattle.rsb_integer.specs.Selection.{Agree};
-ghost use Rattle.range_set_blaze.specs.Order.{AreTurns, HasOrder};
-ghost use Rattle.range_set_blaze.specs.OrderLaws.{set_cmp, set_eq, sets_equivalence, sets_partial_equivalence, sets_partial_order, sets_ties, sets_total};
+ghost use Rattle.rsb_runs.specs.Order.{AreTurns, HasOrder};
+ghost use Rattle.rsb_runs.specs.OrderLaws.{set_cmp, set_eq, sets_equivalence, sets_partial_equivalence, sets_partial_order, sets_ties, sets_total};
 
 use crate::set::RangeSetBlaze;
-use crate::set::entries::next_run;
-use crate::set::runs::Runs;
 use rsb_integer::Integer;
+use rsb_runs::entries::next_run;
+use rsb_runs::runs::Runs;
 use std::alloc::Allocator;
 use std::cmp::Ordering;
 use std::collections::btree_map::Iter;

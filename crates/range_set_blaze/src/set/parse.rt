@@ -4,7 +4,7 @@ ghost use Rattle.std.specs.Prelude.{◌≡◌, ◌≢◌, ℕ, List, IfOk, Some}
 ghost use Rattle.std.specs.declared.ops.RangeInclusive.{RangeInclusive as Range};
 ghost use Rattle.rsb_integer.specs.Rank.{intervals_of};
 ghost use Rattle.rsb_integer.specs.Runs.{members, AreRuns, Interval, IsCanonicalIn};
-ghost use Rattle.range_set_blaze.specs.Set.{IsSetOf};
+ghost use Rattle.rsb_runs.specs.Set.{IsSetOf};
 ghost use Rattle.range_set_blaze.specs.Written.{runs_text};
 ghost use Rattle.rsb_text.specs.Text.{IsFirstUnexpected, Spells};
 

@@ -3,16 +3,16 @@
 ghost use Rattle.std.specs.Prelude.{◌≡◌, ◌↔◌, ◌+◌, ◌<◌, ◌≤◌, ℕ, [], Contains, IfOk, IfSome, IsFalse, IsNone, IsOk, IsSome, IsTrue, OnErr, OnOk};
 ghost use Rattle.rsb_integer.specs.Runs.{members, IsCanonicalIn};
 ghost use Rattle.range_set_blaze.specs.BothEnds.{TakesGreatest, TakesLeast};
-ghost use Rattle.range_set_blaze.specs.Storage.{run_of, IsKept};
+ghost use Rattle.rsb_runs.specs.Storage.{run_of, IsKept};
 ghost use Rattle.range_set_blaze.specs.Removal.{IsCutAbove, IsRemoved};
 ghost use Rattle.rsb_streams.specs.RunCount.{HasOneRunMoreAtMost};
-ghost use Rattle.range_set_blaze.specs.Set.{only, IsLeast, Removes};
+ghost use Rattle.rsb_runs.specs.Set.{only, IsLeast, Removes};
 
 use crate::set::RangeSetBlaze;
-use crate::set::lengths::take_off_length;
-use crate::set::run::{Run, is_below, known};
-use crate::set::runs::Runs;
 use rsb_integer::Integer;
+use rsb_runs::lengths::take_off_length;
+use rsb_runs::run::{Run, is_below, known};
+use rsb_runs::runs::Runs;
 use std::alloc::{AllocError, Allocator};
 
 impl<T: Integer, A: Allocator + Clone> RangeSetBlaze<T, A> {

@@ -5,15 +5,15 @@ ghost use Rattle.std.specs.List.{filter};
 ghost use Rattle.rsb_integer.specs.Runs.{Interval, members};
 ghost use Rattle.rsb_integer.specs.Selection.{intersection, IsSubset, Selection};
 ghost use Rattle.rsb_streams.specs.Sublists.{IsSublist};
-ghost use Rattle.range_set_blaze.specs.Storage.{IsKept};
+ghost use Rattle.rsb_runs.specs.Storage.{IsKept};
 ghost use Rattle.range_set_blaze.specs.Retain.{AnswersByRank, AnswersByRun, AsksAll, AsksFront, AsksRuns, CallableOnMembers, CallableOnRuns};
-ghost use Rattle.range_set_blaze.specs.Set.{IsSetOf};
+ghost use Rattle.rsb_runs.specs.Set.{IsSetOf};
 
 use crate::set::RangeSetBlaze;
 use crate::set::keep::kept_values;
-use crate::set::lengths::take_off_length;
-use crate::set::runs::Runs;
 use rsb_integer::Integer;
+use rsb_runs::lengths::take_off_length;
+use rsb_runs::runs::Runs;
 use std::alloc::{AllocError, Allocator};
 use std::ops::RangeInclusive;
 

@@ -3,17 +3,17 @@
 ghost use Rattle.std.specs.Prelude.{◌≡◌, ◌+◌, ◌<◌, ◌≤◌, Contains, IfOk, IsFalse, IsOk, MatchOption, OnErr, OnOk};
 ghost use Rattle.rsb_integer.specs.Runs.{members, IsCanonicalIn};
 ghost use Rattle.rsb_integer.specs.Selection.{count, intersection, IsEmpty};
-ghost use Rattle.range_set_blaze.specs.Storage.{run_of};
-ghost use Rattle.range_set_blaze.specs.Set.{IsSetOf, Removes};
-ghost use Rattle.range_set_blaze.specs.Split.{from_on, IsParting, NoneOver};
+ghost use Rattle.rsb_runs.specs.Storage.{run_of};
+ghost use Rattle.rsb_runs.specs.Set.{IsSetOf, Removes};
+ghost use Rattle.rsb_runs.specs.Split.{from_on, IsParting, NoneOver};
 
 use crate::set::RangeSetBlaze;
-use crate::set::entries::next_run;
-use crate::set::lengths::add_length;
-use crate::set::run::{Run, is_below, known, previous};
-use crate::set::runs::Runs;
 use num_traits::Zero;
 use rsb_integer::Integer;
+use rsb_runs::entries::next_run;
+use rsb_runs::lengths::add_length;
+use rsb_runs::run::{Run, is_below, known, previous};
+use rsb_runs::runs::Runs;
 use std::alloc::{AllocError, Allocator};
 
 impl<T: Integer, A: Allocator + Copy> RangeSetBlaze<T, A> {
@@ -79,22 +79,6 @@ fn part<T: Integer, A: Allocator + Clone>(
     }
     let high = runs.split_off(key)?;
     Ok(high)
-}
-
-/// Returns the run that starts below a value and contains it, or `None` if there is none.
-pub(super) fn run_over<T: Integer, A: Allocator>(runs: &Runs<T, A>, key: T) -> Option<Run<T>>
-    requires canonical { IsCanonicalIn T.value_count runs.now }
-    requires value { T.rank key < T.value_count }
-    ensures { MatchOption result (NoneOver runs.now (T.rank key))
-        (λ run. Contains runs.now (run_of T.rank run) × (T.rank run.start < T.rank key)
-        × (T.rank key ≤ T.rank run.end)) }
-{
-    let before = previous(key)?;
-    let run = runs.up_to(before)?;
-    if run.ends_before(key) {
-        return None;
-    }
-    Some(run)
 }
 
 // Does the same as `part`, for a `run` that starts below `key` and contains it.

@@ -5,8 +5,8 @@ ghost use Rattle.std.specs.Fmt.{DisplaysOnOk, debug_items};
 ghost use Rattle.range_set_blaze.specs.Written.{ends_text, runs_text};
 
 use crate::set::RangeSetBlaze;
-use crate::set::entries::next_run;
 use rsb_integer::Integer;
+use rsb_runs::entries::next_run;
 use std::alloc::Allocator;
 use std::collections::btree_map::Iter;
 use std::fmt::{self, Debug, Display, Formatter, Write};

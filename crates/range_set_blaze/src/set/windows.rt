@@ -4,20 +4,20 @@ ghost use Rattle.std.specs.Prelude.{◌≡◌, [], ◌<◌, ◌≤◌, MatchOpti
 ghost use Rattle.rsb_integer.specs.Rank.{intervals_of};
 ghost use Rattle.rsb_integer.specs.Runs.{covers, members, AreRuns, IsCanonicalIn};
 ghost use Rattle.rsb_integer.specs.Selection.{count, difference, intersection};
-ghost use Rattle.range_set_blaze.specs.Storage.{run_of, runs_of};
-ghost use Rattle.range_set_blaze.specs.Set.{ranks_in, IsSetOf};
-ghost use Rattle.range_set_blaze.specs.Split.{NoneOver};
-ghost use Rattle.range_set_blaze.specs.Windows.{starting_within, ReachesIn};
+ghost use Rattle.rsb_runs.specs.Storage.{run_of, runs_of};
+ghost use Rattle.rsb_runs.specs.Set.{ranks_in, IsSetOf};
+ghost use Rattle.rsb_runs.specs.Split.{NoneOver};
+ghost use Rattle.rsb_runs.specs.Windows.{starting_within, ReachesIn};
 
-use crate::gaps_in::GapsIn;
-use crate::ranges_in::RangesIn;
 use crate::set::RangeSetBlaze;
-use crate::set::gaps::{gaps_between, no_gaps};
 use crate::set::insert::run_between;
-use crate::set::run::{Run, known};
-use crate::set::runs::Runs;
-use crate::set::split::run_over;
 use rsb_integer::Integer;
+use rsb_runs::gaps::{gaps_between, no_gaps};
+use rsb_runs::gaps_in::GapsIn;
+use rsb_runs::look_up::run_over;
+use rsb_runs::ranges_in::RangesIn;
+use rsb_runs::run::{Run, known};
+use rsb_runs::runs::Runs;
 use rsb_streams::DrawDisjoint;
 use std::alloc::Allocator;
 use std::collections::btree_map::Range;
@@ -80,47 +80,4 @@ impl<T: Integer, A: Allocator> RangeSetBlaze<T, A> {
             None => no_gaps(&self.runs),
         }
     }
-}
-
-// Returns the runs within a window, which is given by its first and last values.
-fn runs_between<'a, T: Integer, A: Allocator>(
-    runs: &'a Runs<T, A>,
-    window: Run<T>,
-) -> RangesIn<'a, T>
-    requires canonical { IsCanonicalIn T.value_count runs.now }
-    requires order { T.rank window.start ≤ T.rank window.end }
-    requires value { T.rank window.end < T.value_count }
-    ensures canonical { IsCanonicalIn T.value_count (intervals_of T.rank result) }
-    ensures members { IsSetOf (intervals_of T.rank result)
-        (intersection (members runs.now) (covers (run_of T.rank window))) }
-{
-    RangesIn {
-        first: reaching_in(runs, window.start),
-        entries: runs.starting_in(window),
-        last: window.end,
-    }
-}
-
-// Returns an iterator over no runs.
-fn no_runs<'a, T: Integer, A: Allocator>(runs: &'a Runs<T, A>) -> RangesIn<'a, T>
-    ensures { result ≡ [] }
-{
-    RangesIn {
-        first: None,
-        entries: runs.no_entries(),
-        last: T::min_value(),
-    }
-}
-
-// Returns the part at or above a value of the run that starts before the value and contains it, or
-// `None` if there is no such run.
-fn reaching_in<T: Integer, A: Allocator>(runs: &Runs<T, A>, start: T) -> Option<Run<T>>
-    requires canonical { IsCanonicalIn T.value_count runs.now }
-    requires value { T.rank start < T.value_count }
-    ensures { MatchOption result (NoneOver runs.now (T.rank start))
-        (λ part. ReachesIn runs.now (T.rank start) (run_of T.rank part)) }
-{
-    let run = run_over(runs, start)?;
-    let end = run.end;
-    Some(Run { start, end })
 }

@@ -11,12 +11,12 @@ use Rattle.rsb_integer.proofs.lemmas.List.{not_both, Contains-cases, Contains-he
 use Rattle.rsb_integer.proofs.lemmas.Maximal.{maximal-around}
 use Rattle.rsb_integer.proofs.lemmas.Members.{covers-bounds, covers-inside, members-below, members-head, members-tail}
 use Rattle.rsb_integer.proofs.lemmas.Runs.{canonical-runs}
-use Rattle.range_set_blaze.specs.FirstFit.{AllShorter, AllShorterBefore, HasAllFrom, IsFirstFit, IsFirstFree, IsFree}
-use Rattle.range_set_blaze.specs.Split.{from_on}
-use Rattle.range_set_blaze.specs.Starts.{runs_past}
-use Rattle.range_set_blaze.proofs.lemmas.runs.Apart.{contained-maximal, contained-members, starting-members}
-use Rattle.range_set_blaze.proofs.lemmas.runs.Starts.{starting-canonical_in, starting-contains}
-use Rattle.range_set_blaze.proofs.lemmas.windows.Parts.{canonical-raise}
+use Rattle.rsb_runs.specs.FirstFit.{AllShorter, AllShorterBefore, HasAllFrom, IsFirstFit, IsFirstFree, IsFree}
+use Rattle.rsb_runs.specs.Split.{from_on}
+use Rattle.rsb_runs.specs.Starts.{runs_past}
+use Rattle.rsb_runs.proofs.lemmas.runs.Apart.{contained-maximal, contained-members, starting-members}
+use Rattle.rsb_runs.proofs.lemmas.runs.Starts.{starting-canonical_in, starting-contains}
+use Rattle.rsb_runs.proofs.lemmas.windows.Parts.{canonical-raise}
 
 -- ---- runs
 

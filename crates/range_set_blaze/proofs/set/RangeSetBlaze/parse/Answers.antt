@@ -2,7 +2,7 @@ use Rattle.std.proofs.Common.{◌≡◌, ℕ, List, Err, Ok, sym, subst, rules}
 use Rattle.std.specs.declared.ops.RangeInclusive.{RangeInclusive}
 use Rattle.rsb_integer.specs.Rank.{intervals_of}
 use Rattle.rsb_integer.specs.Runs.{members}
-use Rattle.range_set_blaze.specs.Set.{IsSetOf}
+use Rattle.rsb_runs.specs.Set.{IsSetOf}
 use Rattle.rsb_text.specs.Text.{IsFirstUnexpected, Spells}
 use Rattle.rsb_text.specs.declared.parse_error.ParseError.TheVariants.{Unexpected}
 use Rattle.rsb_text.proofs.lemmas.Read.{unexpected-none}

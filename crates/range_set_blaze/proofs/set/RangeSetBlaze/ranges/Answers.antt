@@ -1,16 +1,13 @@
-use Rattle.std.proofs.Common.{◌∙◌}
 use Rattle.rsb_integer.proofs.lemmas.Runs.{canonical-runs}
-use Rattle.range_set_blaze.proofs.lemmas.elements.Ranges.{intervals_of-ranges}
 use Rattle.range_set_blaze.proofs.set.RangeSetBlaze.ranges.Goals as goal
 
 -- The ranges have the intervals of the runs, which are canonical.
 pub returns : goal.returns
 returns g c =
     let canonical = c.self.invariant.canonical in
-    let are = intervals_of-ranges g.T.Integer.rank c.iter.result ∙ c.iter.ensures.runs in
     record {
-      ranges = rw (← c.self.view_is) are;
-      ready = rw are canonical;
+      ranges = rw (← c.self.view_is) c.ranges.ensures;
+      ready = rw c.ranges.ensures canonical;
       runs = rw (← c.self.view_is)
           (canonical-runs g.T.Integer.value_count _ canonical.0 canonical.1);
     }

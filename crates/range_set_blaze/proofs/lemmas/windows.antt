@@ -1,7 +1,0 @@
--- The part of a set between two bounds.
-pub mod FreeParts
-pub mod GapRanges
-pub mod Gaps
-pub mod Kept
-pub mod Parts
-pub mod Ranges

@@ -1,0 +1,2 @@
+-- The runs of entries.
+pub mod Ranges

@@ -1,0 +1,3 @@
+-- Lists of runs in order.
+pub mod Filled
+pub mod InOrder

@@ -1,0 +1,2 @@
+-- The gap around a value.
+pub mod Gaps

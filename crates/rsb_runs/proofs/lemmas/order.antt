@@ -1,0 +1,2 @@
+-- The first and last runs.
+pub mod EndRuns

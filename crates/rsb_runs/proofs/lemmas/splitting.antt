@@ -1,0 +1,2 @@
+-- Runs split at a rank.
+pub mod Parting

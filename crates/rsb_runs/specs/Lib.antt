@@ -1,0 +1,9 @@
+pub mod FirstFit
+pub mod GapsIn
+pub mod Order
+pub mod OrderLaws
+pub mod Set
+pub mod Split
+pub mod Starts
+pub mod Storage
+pub mod Windows
