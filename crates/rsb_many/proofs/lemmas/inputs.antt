@@ -8,7 +8,6 @@ pub mod HeadLeaves
 pub mod Held
 pub mod Leaves
 pub mod Left
-pub mod Listed
 pub mod OneInput
 pub mod Places
 pub mod Rests

@@ -7,7 +7,7 @@ use Rattle.std.specs.declared.ops.RangeInclusive.{RangeInclusive}
 use Rattle.rsb_integer.specs.Rank.{interval_of, intervals_of}
 use Rattle.rsb_integer.specs.Runs.{IsCanonicalIn}
 use Rattle.rsb_integer.proofs.lemmas.Canonical.{canonical-front}
-use Rattle.rsb_many.proofs.lemmas.inputs.Listed.{canonical-goes}
+use Rattle.rsb_streams.proofs.lemmas.sources.ListCalls.{canonical-goes}
 use Rattle.rsb_runs.specs.Storage.{range_of, ranges_of, runs_of}
 
 -- The ranges of runs have the intervals of the runs.

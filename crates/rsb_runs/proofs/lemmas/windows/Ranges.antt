@@ -14,7 +14,7 @@ use Rattle.rsb_integer.specs.Rank.{interval_of, intervals_of}
 use Rattle.rsb_integer.specs.Runs.{IsCanonicalIn}
 use Rattle.rsb_integer.proofs.lemmas.Canonical.{canonical-front}
 use Rattle.rsb_integer.proofs.lemmas.List.{true_or_false}
-use Rattle.rsb_many.proofs.lemmas.inputs.Listed.{canonical-goes}
+use Rattle.rsb_streams.proofs.lemmas.sources.ListCalls.{canonical-goes}
 use Rattle.rsb_runs.specs.Storage.{entry_of, runs_of}
 use Rattle.rsb_runs.specs.Starts.{StartsAscendFrom}
 use Rattle.rsb_runs.specs.Windows.{lesser_of, range_up_to, ranges_up_to, starting_within, up_to}

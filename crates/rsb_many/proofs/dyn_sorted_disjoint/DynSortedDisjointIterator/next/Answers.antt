@@ -1,6 +1,6 @@
 use Rattle.std.proofs.Common.{◌∙◌, sym}
 use Rattle.std.specs.Vec.Iter.{into_iter_items}
-use Rattle.rsb_many.proofs.lemmas.inputs.Listed.{canonical-goes_by}
+use Rattle.rsb_streams.proofs.lemmas.sources.ListCalls.{canonical-goes_by}
 use Rattle.rsb_many.proofs.dyn_sorted_disjoint.DynSortedDisjointIterator.next.Goals as goal
 
 -- What is left of canonical ranges is canonical.

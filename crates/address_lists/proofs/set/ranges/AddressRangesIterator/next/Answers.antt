@@ -1,5 +1,5 @@
 use Rattle.std.proofs.Common.{◌∙◌, ap, sym}
-use Rattle.rsb_many.proofs.lemmas.inputs.Listed.{canonical-goes}
+use Rattle.rsb_streams.proofs.lemmas.sources.ListCalls.{canonical-goes}
 use Rattle.address_lists.specs.Pairs.{ranges_of}
 use Rattle.address_lists.proofs.set.ranges.AddressRangesIterator.next.Goals as goal
 
