@@ -7,6 +7,7 @@ use Rattle.rsb_runs.specs.Set.{Adds}
 use Rattle.rsb_runs.specs.Starts.{with_run}
 use Rattle.rsb_runs.specs.declared.run.Run.{Run}
 use Rattle.range_set_blaze.specs.declared.set.insert.Joining.{Joining}
+pub use Rattle.rsb_runs.specs.Set.{HasAll}
 
 -- ---- runs that start inside another
 

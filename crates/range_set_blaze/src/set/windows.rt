@@ -1,26 +1,20 @@
 //! The part of a set between two bounds: its runs, its gaps, and how many members it has.
 
-ghost use Rattle.std.specs.Prelude.{◌≡◌, [], ◌<◌, ◌≤◌, MatchOption};
+ghost use Rattle.std.specs.Prelude.{◌≡◌};
 ghost use Rattle.rsb_integer.specs.Rank.{intervals_of};
-ghost use Rattle.rsb_integer.specs.Runs.{covers, members, AreRuns, IsCanonicalIn};
+ghost use Rattle.rsb_integer.specs.Runs.{members, AreRuns, IsCanonicalIn};
 ghost use Rattle.rsb_integer.specs.Selection.{count, difference, intersection};
-ghost use Rattle.rsb_runs.specs.Storage.{run_of, runs_of};
 ghost use Rattle.rsb_runs.specs.Set.{ranks_in, IsSetOf};
-ghost use Rattle.rsb_runs.specs.Split.{NoneOver};
-ghost use Rattle.rsb_runs.specs.Windows.{starting_within, ReachesIn};
 
 use crate::set::RangeSetBlaze;
 use crate::set::insert::run_between;
 use rsb_integer::Integer;
 use rsb_runs::gaps::{gaps_between, no_gaps};
 use rsb_runs::gaps_in::GapsIn;
-use rsb_runs::look_up::run_over;
 use rsb_runs::ranges_in::RangesIn;
-use rsb_runs::run::{Run, known};
-use rsb_runs::runs::Runs;
+use rsb_runs::windows::{no_runs, runs_between};
 use rsb_streams::DrawDisjoint;
 use std::alloc::Allocator;
-use std::collections::btree_map::Range;
 use std::ops::RangeBounds;
 
 impl<T: Integer, A: Allocator> RangeSetBlaze<T, A> {

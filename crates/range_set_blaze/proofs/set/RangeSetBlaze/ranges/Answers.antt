@@ -6,8 +6,8 @@ pub returns : goal.returns
 returns g c =
     let canonical = c.self.invariant.canonical in
     record {
-      ranges = rw (← c.self.view_is) c.ranges.ensures;
-      ready = rw c.ranges.ensures canonical;
+      ranges = rw (← c.self.view_is) c.ranges-2.ensures;
+      ready = rw c.ranges-2.ensures canonical;
       runs = rw (← c.self.view_is)
           (canonical-runs g.T.Integer.value_count _ canonical.0 canonical.1);
     }
