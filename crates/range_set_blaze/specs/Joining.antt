@@ -1,7 +1,7 @@
 -- A new run and the runs that it touches.
-use Rattle.std.specs.Prelude.{◌≡◌, ℕ, true, false, ◌||◌, ◌+◌, ◌<◌, ◌≤◌, List, Option, MatchOption, Contains, IsTrue}
+use Rattle.std.specs.Prelude.{◌≡◌, ℕ, true, false, ◌||◌, ◌+◌, ◌<◌, ◌≤◌, List, Option, MatchOption, Contains}
 use Rattle.rsb_integer.specs.Runs.{Interval, covers, members, IsCanonicalIn}
-use Rattle.rsb_integer.specs.Selection.{Selection, count, LacksSome}
+use Rattle.rsb_integer.specs.Selection.{count, LacksSome}
 use Rattle.rsb_runs.specs.Storage.{run_of, IsKept}
 use Rattle.rsb_runs.specs.Set.{Adds}
 use Rattle.rsb_runs.specs.Starts.{with_run}
