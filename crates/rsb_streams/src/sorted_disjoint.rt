@@ -49,6 +49,11 @@ use std::ops::RangeInclusive;
 /// `None` again. No law says so for other streams, so the streams of this crate never call another
 /// stream again after its end.
 pub trait SortedStarts<T: Integer>: Iterator<Item = RangeInclusive<T>> + FusedIterator + Draw<T> {
+    /// Does nothing. In an implementation for a type that contains a closure, the bound on the
+    /// closure is known only if the implementation defines a function of its own. It can override
+    /// this one for that purpose. Not in range-set-blaze.
+    fn mark_sorted(&self) {}
+
     // `next` does what `draw` does.
     ghost drawn: { IsDrawn Self.can_draw Self.draw_gives Self.draws_left
         Self.can_next Self.next_gives Self.remaining };
@@ -271,6 +276,11 @@ pub trait DrawDisjoint<T: Integer>: Draw<T> {
     {
         self.intersection(other).is_empty()
     }
+
+    /// Does nothing. In an implementation for a type that contains a closure, the bound on the
+    /// closure is known only if the implementation defines a function of its own. It can override
+    /// this one for that purpose. Not in range-set-blaze.
+    fn mark_disjoint(&self) {}
 
     // Whatever a ready stream may give is canonical.
     ghost canonical: { (s : Self) → Self.can_draw s

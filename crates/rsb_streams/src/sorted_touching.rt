@@ -29,6 +29,11 @@ pub trait SortedTouching<T: Integer>: SortedStarts<T> {
         UnionIter::new(self)
     }
 
+    /// Does nothing. In an implementation for a type that contains a closure, the bound on the
+    /// closure is known only if the implementation defines a function of its own. It can override
+    /// this one for that purpose. Not in range-set-blaze.
+    fn mark_touching(&self) {}
+
     // Whatever a ready stream may give ascends, and no two ranges of it overlap.
     ghost touching: { (s : Self) → Self.can_draw s → Self.may_give s ⊆ IsTouchingIn T.value_count };
 }

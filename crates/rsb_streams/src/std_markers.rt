@@ -1,7 +1,7 @@
 //! The adapters of std over a stream are streams. Whatever a closure returns, they give a part of
-//! what the stream may give, and each part satisfies the same laws.
+//! what the stream may give, and each part satisfies the same laws. Adapters with a closure
+//! override `mark_sorted` and `mark_disjoint` (docs/DECISIONS.md, marks).
 
-mod closure_laws;
 mod filter;
 mod fuse;
 mod skip;

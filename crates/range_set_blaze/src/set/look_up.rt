@@ -4,7 +4,6 @@ ghost use Rattle.std.specs.Prelude.{◌≡◌, ◌↔◌, ◌<◌, IfSome, IsFal
 ghost use Rattle.rsb_integer.specs.Rank.{interval_of};
 ghost use Rattle.rsb_integer.specs.Runs.{members, IsCanonicalIn};
 ghost use Rattle.rsb_integer.specs.Selection.{complement, IsUniversal};
-ghost use Rattle.rsb_runs.specs.Storage.{run_of};
 ghost use Rattle.rsb_runs.specs.Starts.{IsGapEnd};
 ghost use Rattle.rsb_runs.specs.Set.{IsRunAround};
 

@@ -1,16 +1,14 @@
 //! `Filter` over a stream is a stream: it gives the ranges that pass a test.
 
 ghost use Rattle.std.specs.Iterator.Adapters.{filter_source};
-ghost use Rattle.std.proofs.Common.{rules};
 ghost use Rattle.rsb_streams.specs.AdapterLaws.{filter-drawn, filter-sorted};
 ghost use Rattle.rsb_streams.specs.Adapters.{filter_draws};
 ghost use Rattle.rsb_streams.specs.PartLaws.{part-canonical, sublist-is_part};
 
 use crate::draw::Draw;
 use crate::sorted_disjoint::{DrawDisjoint, SortedDisjoint, SortedStarts};
-use crate::std_markers::closure_laws::{GivesCanonical, NextDraws};
 use rsb_integer::Integer;
-use std::iter::{Filter, FusedIterator};
+use std::iter::Filter;
 use std::ops::RangeInclusive;
 
 impl<
@@ -40,9 +38,9 @@ impl<
         I.answers I.sorted ready.drawn P.FnMut s ready };
 }
 
-impl<T: Integer, I: SortedStarts<T>, P: FnMut(&RangeInclusive<T>) -> bool> NextDraws<T>
+impl<T: Integer, I: SortedStarts<T>, P: FnMut(&RangeInclusive<T>) -> bool> SortedStarts<T>
     for Filter<I, P> {
-    fn mark(&self) {}
+    fn mark_sorted(&self) {}
 
     ghost drawn = { filter-drawn T.Integer.own ⟦<I as Draw<T>>⟧ ⟦<I as Iterator>⟧ I.answers
         I.sorted I.drawn P.FnMut };
@@ -52,25 +50,11 @@ impl<
     T: Integer,
     I: Iterator<Item = RangeInclusive<T>> + DrawDisjoint<T>,
     P: FnMut(&RangeInclusive<T>) -> bool,
-> GivesCanonical<T> for Filter<I, P> {
-    fn mark(&self) {}
+> DrawDisjoint<T> for Filter<I, P> {
+    fn mark_disjoint(&self) {}
 
     ghost canonical = { λ s ready. part-canonical T.value_count sublist-is_part
         (I.may_give (filter_source s)) (I.canonical (filter_source s) ready.source) };
-}
-
-impl<T: Integer, I: Drop, P: Drop> SortedStarts<T> for Filter<I, P>
-where
-    Filter<I, P>: NextDraws<T> + FusedIterator,
-{
-    ghost drawn = { Prim.search rules };
-}
-
-impl<T: Integer, I: Drop, P: Drop> DrawDisjoint<T> for Filter<I, P>
-where
-    Filter<I, P>: GivesCanonical<T>,
-{
-    ghost canonical = { Prim.search rules };
 }
 
 impl<T: Integer, I: Drop, P: Drop> SortedDisjoint<T> for Filter<I, P>

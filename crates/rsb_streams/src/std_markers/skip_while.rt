@@ -2,16 +2,14 @@
 //! after it.
 
 ghost use Rattle.std.specs.Iterator.Adapters.{skip_while_done_skipping, skip_while_source};
-ghost use Rattle.std.proofs.Common.{rules};
 ghost use Rattle.rsb_streams.specs.AdapterLaws.{skip_while-drawn, skip_while-sorted};
 ghost use Rattle.rsb_streams.specs.Adapters.{skip_while_draws};
 ghost use Rattle.rsb_streams.specs.PartLaws.{part-canonical, rest-is_part};
 
 use crate::draw::Draw;
 use crate::sorted_disjoint::{DrawDisjoint, SortedDisjoint, SortedStarts};
-use crate::std_markers::closure_laws::{GivesCanonical, NextDraws};
 use rsb_integer::Integer;
-use std::iter::{FusedIterator, SkipWhile};
+use std::iter::SkipWhile;
 use std::ops::RangeInclusive;
 
 impl<
@@ -41,9 +39,9 @@ impl<
         I.answers I.sorted ready.drawn P.FnMut s ready };
 }
 
-impl<T: Integer, I: SortedStarts<T>, P: FnMut(&RangeInclusive<T>) -> bool> NextDraws<T>
+impl<T: Integer, I: SortedStarts<T>, P: FnMut(&RangeInclusive<T>) -> bool> SortedStarts<T>
     for SkipWhile<I, P> {
-    fn mark(&self) {}
+    fn mark_sorted(&self) {}
 
     ghost drawn = { skip_while-drawn T.Integer.own ⟦<I as Draw<T>>⟧ ⟦<I as Iterator>⟧ I.answers
         I.sorted I.drawn P.FnMut };
@@ -53,26 +51,12 @@ impl<
     T: Integer,
     I: Iterator<Item = RangeInclusive<T>> + DrawDisjoint<T>,
     P: FnMut(&RangeInclusive<T>) -> bool,
-> GivesCanonical<T> for SkipWhile<I, P> {
-    fn mark(&self) {}
+> DrawDisjoint<T> for SkipWhile<I, P> {
+    fn mark_disjoint(&self) {}
 
     ghost canonical = { λ s ready. part-canonical T.value_count
         (rest-is_part (skip_while_done_skipping s))
         (I.may_give (skip_while_source s)) (I.canonical (skip_while_source s) ready.source) };
-}
-
-impl<T: Integer, I: Drop, P: Drop> SortedStarts<T> for SkipWhile<I, P>
-where
-    SkipWhile<I, P>: NextDraws<T> + FusedIterator,
-{
-    ghost drawn = { Prim.search rules };
-}
-
-impl<T: Integer, I: Drop, P: Drop> DrawDisjoint<T> for SkipWhile<I, P>
-where
-    SkipWhile<I, P>: GivesCanonical<T>,
-{
-    ghost canonical = { Prim.search rules };
 }
 
 impl<T: Integer, I: Drop, P: Drop> SortedDisjoint<T> for SkipWhile<I, P>

@@ -1,16 +1,14 @@
 //! `TakeWhile` over a stream is a stream: it gives the ranges before the first that fails a test.
 
 ghost use Rattle.std.specs.Iterator.Adapters.{take_while_done, take_while_source};
-ghost use Rattle.std.proofs.Common.{rules};
 ghost use Rattle.rsb_streams.specs.AdapterLaws.{take_while-drawn, take_while-sorted};
 ghost use Rattle.rsb_streams.specs.Adapters.{take_while_draws};
 ghost use Rattle.rsb_streams.specs.PartLaws.{front-is_part, part-canonical};
 
 use crate::draw::Draw;
 use crate::sorted_disjoint::{DrawDisjoint, SortedDisjoint, SortedStarts};
-use crate::std_markers::closure_laws::{GivesCanonical, NextDraws};
 use rsb_integer::Integer;
-use std::iter::{FusedIterator, TakeWhile};
+use std::iter::TakeWhile;
 use std::ops::RangeInclusive;
 
 impl<
@@ -40,9 +38,9 @@ impl<
         I.answers I.sorted ready.drawn P.FnMut s ready };
 }
 
-impl<T: Integer, I: SortedStarts<T>, P: FnMut(&RangeInclusive<T>) -> bool> NextDraws<T>
+impl<T: Integer, I: SortedStarts<T>, P: FnMut(&RangeInclusive<T>) -> bool> SortedStarts<T>
     for TakeWhile<I, P> {
-    fn mark(&self) {}
+    fn mark_sorted(&self) {}
 
     ghost drawn = { take_while-drawn T.Integer.own ⟦<I as Draw<T>>⟧ ⟦<I as Iterator>⟧ I.answers
         I.sorted I.drawn P.FnMut };
@@ -52,25 +50,11 @@ impl<
     T: Integer,
     I: Iterator<Item = RangeInclusive<T>> + DrawDisjoint<T>,
     P: FnMut(&RangeInclusive<T>) -> bool,
-> GivesCanonical<T> for TakeWhile<I, P> {
-    fn mark(&self) {}
+> DrawDisjoint<T> for TakeWhile<I, P> {
+    fn mark_disjoint(&self) {}
 
     ghost canonical = { λ s ready. part-canonical T.value_count (front-is_part (take_while_done s))
         (I.may_give (take_while_source s)) (I.canonical (take_while_source s) ready.source) };
-}
-
-impl<T: Integer, I: Drop, P: Drop> SortedStarts<T> for TakeWhile<I, P>
-where
-    TakeWhile<I, P>: NextDraws<T> + FusedIterator,
-{
-    ghost drawn = { Prim.search rules };
-}
-
-impl<T: Integer, I: Drop, P: Drop> DrawDisjoint<T> for TakeWhile<I, P>
-where
-    TakeWhile<I, P>: GivesCanonical<T>,
-{
-    ghost canonical = { Prim.search rules };
 }
 
 impl<T: Integer, I: Drop, P: Drop> SortedDisjoint<T> for TakeWhile<I, P>
