@@ -6,6 +6,15 @@ use Rattle.rsb_integer.proofs.lemmas.Range.{interval_of-ends}
 use Rattle.rsb_integer.proofs.integer.Integer.range_next.Goals as goal
 use Rattle.rsb_integer.proofs.integer.Integer.range_next.Goals.{then-lt, else-lt}
 
+-- The start lies below the end, so there is a value one rank higher.
+pub add_one-requires : goal.add_one-requires
+add_one-requires g c =
+    let order = g.met.Self.Integer.in_order c.start.result.now c.end.result.now
+    c.checked_add_one.ensures.value c.checked_add_one-2.ensures.value in
+    let matches = g.met.Self.Ord.matches_partial_cmp c.start.result.now c.end.result.now in
+    let valued = c.checked_add_one-2.ensures.value in
+    grind (arith, nat_tests, order, matches, valued, c.lt.ensures, c.if-lt.true)
+
 -- The rest is the range without its first rank, or is empty if there was only one.
 pub returns-clause-rest : goal.returns-clause-rest
 returns-clause-rest g c =
