@@ -1,5 +1,5 @@
 -- The parts of spaced lists of intervals.
-use Rattle.std.proofs.Common.{◌≡◌, ℕ, ◌+◌, List, [], ◌∷◌, ◌++◌, refl, arith, ◌<◌, ◌≤◌}
+use Rattle.std.proofs.Common.{◌≡◌, ℕ, ◌+◌, List, [], ◌∷◌, ◌++◌, refl, arith, ◌<◌}
 use Rattle.std.proofs.lemmas.List.Elements.{All-tail}
 use Rattle.rsb_integer.specs.Runs.{Interval}
 use Rattle.rsb_integer.proofs.lemmas.List.{All-front}
