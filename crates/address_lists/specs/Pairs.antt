@@ -1,15 +1,6 @@
 -- Ranges that are given as pairs of their ends.
-use Rattle.std.specs.Prelude.{◌≡◌, ℕ, ◌+◌, ◌<◌, ◌≤◌, Bool, MatchBool, List, false, map, max}
-use Rattle.std.specs.declared.ops.RangeInclusive.{RangeInclusive}
+use Rattle.std.specs.Prelude.{◌≡◌, ℕ, ◌+◌, ◌<◌, ◌≤◌, Bool, MatchBool, List, map, max}
 use Rattle.range_set_blaze.specs.Runs.{Interval, from_to}
-
--- The range from the first value of a pair to the second one.
-abbrev pub range_of : {T : Type 0} → T × T → RangeInclusive T
-range_of pair = record { start = pair.0; end = pair.1; exhausted = false }
-
--- The range of each pair.
-abbrev pub ranges_of : {T : Type 0} → List (T × T) → List (RangeInclusive T)
-ranges_of pairs = map range_of pairs
 
 -- The ranks from the first value of a pair to the second one.
 abbrev pub span_of : {T : Type 0} → (T → ℕ) → T × T → Interval

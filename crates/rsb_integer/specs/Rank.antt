@@ -1,10 +1,18 @@
 -- The ranks of values, and ranges of values as intervals of ranks.
-use Rattle.std.specs.Prelude.{ℕ, ℤ, pos, negsuc, cond, map, ◌+◌, ◌-◌, ◌*◌, ◌^◌, nat_lt, List}
+use Rattle.std.specs.Prelude.{ℕ, ℤ, pos, negsuc, false, cond, map, ◌+◌, ◌-◌, ◌*◌, ◌^◌, nat_lt, List}
 use Rattle.std.specs.Int.{Width}
 use Rattle.std.specs.Range.{range_inclusive_start, range_inclusive_end, range_inclusive_exhausted}
 use Rattle.std.specs.declared.ops.RangeInclusive.{RangeInclusive}
 use Rattle.rsb_integer.specs.Runs.{Interval}
 use mir.Val.{hbits}
+
+-- The range from one value to another.
+abbrev pub range_of : {T : Type 0} → T × T → RangeInclusive T
+range_of ends = record { start = ends.0; end = ends.1; exhausted = false }
+
+-- The range of each pair of ends.
+abbrev pub ranges_of : {T : Type 0} → List (T × T) → List (RangeInclusive T)
+ranges_of pairs = map range_of pairs
 
 -- The ranks of a range. A range that was iterated to its end has none.
 abbrev pub interval_of : {T : Type 0} → (T → ℕ) → RangeInclusive T → Interval

@@ -1,10 +1,8 @@
 -- The representation of a set: a map from the starts of its runs to their ends, and its length.
 use Rattle.std.specs.Prelude.{◌≡◌, ℕ, List, map}
-use Rattle.std.specs.declared.ops.RangeInclusive.{RangeInclusive}
 use Rattle.rsb_integer.specs.Runs.{Interval, members, IsCanonicalIn}
 use Rattle.rsb_integer.specs.Selection.{count}
 use Rattle.rsb_runs.specs.declared.run.Run.{Run}
-pub use Rattle.rsb_text.specs.Text.{range_of}
 
 -- The interval of the ranks of a run.
 abbrev pub run_of : {T : Type 0} → (T → ℕ) → Run T → Interval
@@ -21,10 +19,6 @@ entry_run rank entry = record { first = rank entry.0; last = rank entry.1 }
 -- The intervals of the ranks of the runs of entries.
 abbrev pub runs_of : {T : Type 0} → (T → ℕ) → List (T × T) → List Interval
 runs_of rank entries = map (entry_run rank) entries
-
--- The runs of entries, as ranges of values.
-abbrev pub ranges_of : {T : Type 0} → List (T × T) → List (RangeInclusive T)
-ranges_of entries = map range_of entries
 
 -- Whether the runs are canonical in a type of n values, and the stored length is the number of
 -- their members.

@@ -26,7 +26,7 @@ pub struct IntoRangesIter<T: Integer, A: Allocator = Global> {
 impl<T: Integer, A: Allocator> Model for IntoRangesIter<T, A> {
     ghost use Rattle.std.specs.Prelude.{List};
     ghost use Rattle.std.specs.declared.ops.RangeInclusive.{RangeInclusive};
-    ghost use Rattle.rsb_runs.specs.Storage.{ranges_of};
+    ghost use Rattle.rsb_integer.specs.Rank.{ranges_of};
 
     ghost Value = { List (RangeInclusive T) };
 

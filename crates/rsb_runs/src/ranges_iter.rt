@@ -24,7 +24,7 @@ pub struct RangesIter<'a, T: Integer> {
 impl<'a, T: Integer> Model for RangesIter<'a, T> {
     ghost use Rattle.std.specs.Prelude.{List};
     ghost use Rattle.std.specs.declared.ops.RangeInclusive.{RangeInclusive};
-    ghost use Rattle.rsb_runs.specs.Storage.{ranges_of};
+    ghost use Rattle.rsb_integer.specs.Rank.{ranges_of};
 
     ghost Value = { List (RangeInclusive T) };
 

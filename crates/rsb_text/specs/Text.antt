@@ -15,6 +15,7 @@
 use Rattle.std.specs.Prelude.{◌≡◌, ℕ, ℤ, pos, neg_ℤ, Bool, true, false, cond, ◌==◌, ◌||◌, ◌⊎◌, ◌+◌, ◌*◌, ◌<◌, ◌≤◌, ◌++◌, List, [], ◌∷◌, IsTrue, length, take, unsigned_abs}
 use Rattle.std.specs.Char.{digit_value}
 use Rattle.std.specs.declared.ops.RangeInclusive.{RangeInclusive}
+use Rattle.rsb_integer.specs.Rank.{range_of}
 
 -- ---- bytes
 
@@ -32,12 +33,6 @@ abbrev pub BlanksThen : (List ℕ → Type 0) → List ℕ → Type 0
 BlanksThen Rest [] = Rest []
 BlanksThen Rest (first ∷ rest) =
     Rest (first ∷ rest) ⊎ (IsTrue (is_blank first) × BlanksThen Rest rest)
-
--- ---- ranges of values
-
--- The range from one value to another.
-abbrev pub range_of : {T : Type 0} → T × T → RangeInclusive T
-range_of ends = record { start = ends.0; end = ends.1; exhausted = false }
 
 -- ---- numbers of a type: what number a value is, and which numbers are of the type
 

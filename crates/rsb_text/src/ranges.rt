@@ -3,8 +3,9 @@
 ghost use Rattle.std.specs.Prelude.{◌≡◌, ◌≢◌, ℕ, ◌<◌, List, IfOk, SomeIff, false};
 ghost use Rattle.std.specs.Char.{digit_value};
 ghost use Rattle.std.specs.declared.ops.RangeInclusive.{RangeInclusive as Range};
+ghost use Rattle.rsb_integer.specs.Rank.{range_of};
 ghost use Rattle.rsb_text.specs.Reading.{Finishes, Steps, start_or};
-ghost use Rattle.rsb_text.specs.Text.{IsFirstUnexpected, Spells, is_blank as is_blank_byte, range_of};
+ghost use Rattle.rsb_text.specs.Text.{IsFirstUnexpected, Spells, is_blank as is_blank_byte};
 ghost use Rattle.rsb_text.specs.declared.ranges.Place.TheVariants.{Signed, Digits, Behind, Before};
 
 use crate::parse_error::ParseError;

@@ -25,7 +25,7 @@ impl<'a, T: Address> Model for AddressRanges<'a, T> {
     ghost use Rattle.std.specs.Prelude.{List};
     ghost use Rattle.std.specs.Slice.Iter.{iter_rest};
     ghost use Rattle.std.specs.declared.ops.RangeInclusive.{RangeInclusive};
-    ghost use Rattle.address_lists.specs.Pairs.{ranges_of};
+    ghost use Rattle.range_set_blaze.specs.Rank.{ranges_of};
 
     ghost Value = { List (RangeInclusive T) };
 

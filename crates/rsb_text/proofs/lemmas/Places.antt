@@ -4,7 +4,7 @@ use Rattle.std.proofs.lemmas.Bool.{false≢true}
 use Rattle.std.proofs.lemmas.Bool.Decides.{nat_tests}
 use Rattle.std.specs.Char.{digit_value}
 use Rattle.std.specs.declared.ops.RangeInclusive.{RangeInclusive}
-use Rattle.rsb_text.specs.Text.{range_of}
+use Rattle.rsb_integer.specs.Rank.{range_of}
 use Rattle.rsb_text.specs.Reading.{Finishes, Follows, NextThen, Steps, start_or}
 use Rattle.rsb_text.specs.Text.{BlanksThen, HasDigit, NumberThen, NumeralThen, OthersFollow, is_blank, signed_by}
 use Rattle.rsb_text.specs.declared.ranges.Place.{Place}

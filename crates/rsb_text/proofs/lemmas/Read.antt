@@ -4,7 +4,7 @@ use Rattle.std.proofs.Math.Seq.{take-length}
 use Rattle.std.proofs.lemmas.Bool.{cases_lt}
 use Rattle.std.proofs.lemmas.List.{take_more, take-append-drop}
 use Rattle.std.specs.declared.ops.RangeInclusive.{RangeInclusive}
-use Rattle.rsb_text.specs.Text.{range_of}
+use Rattle.rsb_integer.specs.Rank.{range_of}
 use Rattle.rsb_text.specs.Reading.{Finishes, Follows, HasRead, Steps}
 use Rattle.rsb_text.specs.Text.{HasDigit, IsFirstUnexpected, Spells}
 use Rattle.rsb_text.specs.declared.ranges.Place.{Place}

@@ -3,10 +3,10 @@ use Rattle.std.proofs.Common.{◌≡◌, ◌∙◌, ℕ, ◌≤◌, List, [], �
 use Rattle.std.proofs.lemmas.List.{map-append}
 use Rattle.std.specs.Range.{range_inclusive_start, range_inclusive_end}
 use Rattle.std.specs.declared.ops.RangeInclusive.{RangeInclusive}
-use Rattle.range_set_blaze.specs.Rank.{interval_of, intervals_of}
+use Rattle.range_set_blaze.specs.Rank.{interval_of, intervals_of, ranges_of}
 use Rattle.range_set_blaze.specs.Runs.{Interval}
 use Rattle.range_set_blaze.proofs.RangeLemmas.{interval_of-some}
-use Rattle.address_lists.specs.Pairs.{ranges_of, span_of, spans_of}
+use Rattle.address_lists.specs.Pairs.{span_of, spans_of}
 
 -- The ranges have the ranks of the pairs.
 pub spans-of-ranges : {T : Type 0} (rank : T → ℕ) (pairs : List (T × T))

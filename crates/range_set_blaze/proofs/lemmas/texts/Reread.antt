@@ -7,11 +7,10 @@ use Rattle.std.specs.Fmt.{comma_space, debug_items, signed_decimal}
 use Rattle.std.specs.Prelude.{All}
 use Rattle.std.specs.Str.Parse.{AllDigits, digits_value, digits_value_after}
 use Rattle.std.specs.declared.ops.RangeInclusive.{RangeInclusive}
-use Rattle.rsb_integer.specs.Rank.{intervals_of}
+use Rattle.rsb_integer.specs.Rank.{intervals_of, range_of}
 use Rattle.rsb_integer.specs.Runs.{Interval, members, AreRuns, IsCanonicalIn, IsMaximalRun}
 use Rattle.rsb_integer.specs.Selection.{Selection}
 use Rattle.rsb_integer.proofs.lemmas.Runs.{canonical-maximal, canonical-runs, runs-same}
-use Rattle.rsb_runs.specs.Storage.{range_of}
 use Rattle.rsb_text.specs.Numbers.{AreNumbers}
 use Rattle.rsb_runs.specs.Set.{IsSetOf}
 use Rattle.rsb_text.specs.Text.{BlanksThen, DigitsThen, EndThen, HasDigit, NumberThen, NumeralThen, OthersFollow, SignedThen, Spells, StartThen, signed_by}

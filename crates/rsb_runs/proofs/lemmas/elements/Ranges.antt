@@ -4,11 +4,11 @@ use Rattle.std.proofs.lemmas.Simd.{map-map}
 use Rattle.std.proofs.lemmas.List.{map-append}
 use Rattle.std.specs.Iterator.{MakesProgress, item_count}
 use Rattle.std.specs.declared.ops.RangeInclusive.{RangeInclusive}
-use Rattle.rsb_integer.specs.Rank.{interval_of, intervals_of}
+use Rattle.rsb_integer.specs.Rank.{interval_of, intervals_of, range_of, ranges_of}
 use Rattle.rsb_integer.specs.Runs.{IsCanonicalIn}
 use Rattle.rsb_integer.proofs.lemmas.Canonical.{canonical-front}
 use Rattle.rsb_streams.proofs.lemmas.sources.ListCalls.{canonical-goes}
-use Rattle.rsb_runs.specs.Storage.{range_of, ranges_of, runs_of}
+use Rattle.rsb_runs.specs.Storage.{runs_of}
 
 -- The ranges of runs have the intervals of the runs.
 pub intervals_of-ranges : {T : Type 0} (rank : T → ℕ) (runs : List (T × T))

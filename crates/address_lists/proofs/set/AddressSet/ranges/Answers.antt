@@ -1,7 +1,6 @@
 use Rattle.std.proofs.Common.{◌∙◌, ap}
 use Rattle.rsb_integer.proofs.lemmas.Runs.{canonical-runs}
-use Rattle.range_set_blaze.specs.Rank.{intervals_of}
-use Rattle.address_lists.specs.Pairs.{ranges_of}
+use Rattle.range_set_blaze.specs.Rank.{intervals_of, ranges_of}
 use Rattle.address_lists.proofs.lemmas.listing.Pairs.{spans-of-ranges}
 use Rattle.address_lists.proofs.set.AddressSet.ranges.Goals as goal
 

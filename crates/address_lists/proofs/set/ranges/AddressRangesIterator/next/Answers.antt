@@ -1,6 +1,6 @@
 use Rattle.std.proofs.Common.{◌∙◌, ap, sym}
 use Rattle.rsb_streams.proofs.lemmas.sources.ListCalls.{canonical-goes}
-use Rattle.address_lists.specs.Pairs.{ranges_of}
+use Rattle.range_set_blaze.specs.Rank.{ranges_of}
 use Rattle.address_lists.proofs.set.ranges.AddressRangesIterator.next.Goals as goal
 
 -- What is left of canonical ranges is canonical.
