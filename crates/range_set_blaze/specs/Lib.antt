@@ -7,6 +7,8 @@ pub mod HashLaws
 pub mod Joining
 pub mod Lent
 pub mod Multiway
+pub mod Order
+pub mod OrderLaws
 pub mod Ranked
 pub mod Removal
 pub mod RemoveRanges
@@ -26,8 +28,6 @@ pub use Rattle.rsb_text.specs.Numbers
 pub use Rattle.rsb_text.specs.Text
 pub use Rattle.rsb_runs.specs.FirstFit
 pub use Rattle.rsb_runs.specs.GapsIn
-pub use Rattle.rsb_runs.specs.Order
-pub use Rattle.rsb_runs.specs.OrderLaws
 pub use Rattle.rsb_runs.specs.Set
 pub use Rattle.rsb_runs.specs.Split
 pub use Rattle.rsb_runs.specs.Starts

@@ -1,7 +1,5 @@
 pub mod FirstFit
 pub mod GapsIn
-pub mod Order
-pub mod OrderLaws
 pub mod Set
 pub mod Split
 pub mod Starts

@@ -1,5 +1,6 @@
 -- Lists of runs.
 pub mod Apart
+pub mod EndEntries
 pub mod Found
 pub mod Maps
 pub mod Starts

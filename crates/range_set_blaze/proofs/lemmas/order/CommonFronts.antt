@@ -14,8 +14,8 @@ use Rattle.rsb_integer.proofs.lemmas.Canonical.{canonical-tail}
 use Rattle.rsb_integer.proofs.lemmas.Members.{covers-inside, same_interval}
 use Rattle.rsb_runs.specs.Storage.{run_of, runs_of}
 use Rattle.rsb_runs.specs.declared.run.Run.{Run}
-use Rattle.rsb_runs.specs.Order.{elements_from, order, start_alike, AreTurns}
-use Rattle.rsb_runs.specs.OrderLaws.{nat_cmp-greater, nat_cmp-same}
+use Rattle.range_set_blaze.specs.Order.{elements_from, order, start_alike, AreTurns}
+use Rattle.range_set_blaze.specs.OrderLaws.{nat_cmp-greater, nat_cmp-same}
 use Rattle.range_set_blaze.proofs.lemmas.order.AlongRuns.{made-canonical}
 
 -- The given number of ranks, starting at `low`.

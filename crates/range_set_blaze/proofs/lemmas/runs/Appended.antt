@@ -11,7 +11,7 @@ use Rattle.rsb_integer.proofs.lemmas.Members.{members-append}
 use Rattle.rsb_streams.specs.RunCount.{HasRunsOfBothAtMost}
 use Rattle.rsb_runs.specs.Storage.{IsKept}
 use Rattle.rsb_runs.specs.Starts.{StartsWith}
-use Rattle.rsb_runs.proofs.lemmas.order.EndRuns.{ends-last}
+use Rattle.range_set_blaze.proofs.lemmas.order.EndRuns.{ends-last}
 use Rattle.rsb_runs.proofs.lemmas.runs.Storage.{sum_by-canonical, sum_by-within}
 
 -- If runs end before a bound, with a gap between, others from there on may follow.

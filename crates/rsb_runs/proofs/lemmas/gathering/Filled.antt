@@ -1,5 +1,6 @@
 -- A map that is built from a list of entries in order.
 use Rattle.std.proofs.Common.{◌≡◌, ℕ, ◌+◌, ◌<◌, Bool, true, false, List, [], ◌∷◌, Option, Some, None, Less, Equal, Greater, refl, sym, ap, ◌∙◌, arith}
+use Rattle.std.proofs.lemmas.Bool.Decides.{nat_tests}
 use Rattle.std.proofs.lemmas.Cmp.{eq_by_cmp_equiv, tied_itself}
 use Rattle.std.proofs.lemmas.Map.{lookup-none}
 use Rattle.std.proofs.lemmas.Map.Entries.{lookup_head, lookup_tail, none_below_head, none_past_head}
@@ -16,7 +17,6 @@ use Rattle.std.specs.Ordering.{eq_by_cmp, nat_cmp, is_eq, ordering_reverse}
 use Rattle.std.specs.declared.cmp.Ordering.{Ordering}
 use Rattle.rsb_runs.specs.Storage.{runs_of}
 use Rattle.rsb_runs.specs.Starts.{StartsAscendFrom}
-use Rattle.rsb_runs.specs.OrderLaws.{nat_cmp-less}
 
 -- If two look-ups have the same result, they find the same value.
 one-value : {X : Type 0} (x y : X) (left right : Option X) → left ≡ right → left ≡ Some x
@@ -37,9 +37,9 @@ module _ {T : Type 0} (cmp : T → T → Ordering) (order : IsTotalOrder cmp) (r
       → AllByRecursion (λ key. cmp value key ≡ Less) (keys_of entries)
   later value low [] valued below ascending = tt
   later value low (entry ∷ entries) valued below ascending =
-      let from = ascending.0 in (
-        in_order value entry.0 valued ascending.1
-            ∙ nat_cmp-less (rank value) (rank entry.0) (omega (arith, below, from)),
+      let from = ascending.0 in
+      let less : nat_cmp (rank value) (rank entry.0) ≡ Less = grind (arith, nat_tests, below, from) in (
+        in_order value entry.0 valued ascending.1 ∙ less,
         later value (rank entry.0 + 1) entries valued (omega (arith, below, from)) ascending.2,
       )
 

@@ -1,4 +1,4 @@
-use Rattle.rsb_runs.proofs.lemmas.order.EndRuns.{kept-nil}
+use Rattle.range_set_blaze.proofs.lemmas.order.EndRuns.{kept-nil}
 use Rattle.range_set_blaze.proofs.set.RangeSetBlaze.clear.Goals as goal
 
 -- No run is left, and the length is 0.

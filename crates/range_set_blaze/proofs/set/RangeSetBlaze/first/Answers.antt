@@ -1,4 +1,4 @@
-use Rattle.rsb_runs.proofs.lemmas.order.EndRuns.{first-least}
+use Rattle.range_set_blaze.proofs.lemmas.order.EndRuns.{first-least}
 use Rattle.range_set_blaze.proofs.set.RangeSetBlaze.first.Goals as goal
 
 -- The first run starts with the least member.

@@ -1,4 +1,4 @@
-use Rattle.rsb_runs.proofs.lemmas.order.EndRuns.{nothing-kept}
+use Rattle.range_set_blaze.proofs.lemmas.order.EndRuns.{nothing-kept}
 use Rattle.range_set_blaze.proofs.set.RangeSetBlaze.is_empty.Goals as goal
 
 -- Every run has a member, so a set without members has no runs.

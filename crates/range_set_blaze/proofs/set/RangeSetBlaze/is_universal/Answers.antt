@@ -1,5 +1,5 @@
 use Rattle.std.proofs.Common.{arith}
-use Rattle.rsb_runs.proofs.lemmas.order.EndRuns.{count-everything}
+use Rattle.range_set_blaze.proofs.lemmas.order.EndRuns.{count-everything}
 use Rattle.range_set_blaze.proofs.set.RangeSetBlaze.is_universal.Goals as goal
 
 -- The length is the number of values of the type exactly if every value is a member.

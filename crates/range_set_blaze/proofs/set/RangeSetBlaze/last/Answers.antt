@@ -1,4 +1,4 @@
-use Rattle.rsb_runs.proofs.lemmas.order.EndRuns.{last-greatest}
+use Rattle.range_set_blaze.proofs.lemmas.order.EndRuns.{last-greatest}
 use Rattle.range_set_blaze.proofs.set.RangeSetBlaze.last.Goals as goal
 
 -- The last run ends with the greatest member.

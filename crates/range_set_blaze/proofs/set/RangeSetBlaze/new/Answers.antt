@@ -1,4 +1,4 @@
-use Rattle.rsb_runs.proofs.lemmas.order.EndRuns.{kept-nil}
+use Rattle.range_set_blaze.proofs.lemmas.order.EndRuns.{kept-nil}
 use Rattle.range_set_blaze.proofs.set.RangeSetBlaze.new.Goals as goal
 
 -- The set has no run, and the length is 0.

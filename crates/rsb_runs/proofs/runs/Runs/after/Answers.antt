@@ -1,4 +1,4 @@
-use Rattle.rsb_runs.proofs.lemmas.order.EndRuns.{first-entry}
+use Rattle.rsb_runs.proofs.lemmas.runs.EndEntries.{first-entry}
 use Rattle.rsb_runs.proofs.runs.Runs.after.Goals as goal
 
 -- The first of the entries past the value is that of the first run that starts after it.

@@ -1,5 +1,5 @@
 use Rattle.std.proofs.Common.{arith}
-use Rattle.rsb_runs.proofs.lemmas.order.EndRuns.{first-run, length-runs_of, no-items}
+use Rattle.rsb_runs.proofs.lemmas.runs.EndEntries.{first-run, length-runs_of, no-items}
 use Rattle.rsb_runs.proofs.runs.Runs.first.Goals as goal
 
 -- If there is no entry, there is no run.

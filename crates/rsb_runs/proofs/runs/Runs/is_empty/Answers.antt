@@ -1,5 +1,5 @@
 use Rattle.std.proofs.Common.{◌∙◌, sym}
-use Rattle.rsb_runs.proofs.lemmas.order.EndRuns.{length-runs_of, no-items}
+use Rattle.rsb_runs.proofs.lemmas.runs.EndEntries.{length-runs_of, no-items}
 use Rattle.rsb_runs.proofs.runs.Runs.is_empty.Goals as goal
 
 -- There are as many runs as entries.

@@ -1,6 +1,6 @@
 use Rattle.std.proofs.Common.{◌∙◌, ap}
 use Rattle.rsb_runs.specs.Storage.{runs_of}
-use Rattle.rsb_runs.proofs.lemmas.order.EndRuns.{length-runs_of}
+use Rattle.rsb_runs.proofs.lemmas.runs.EndEntries.{length-runs_of}
 use Rattle.rsb_runs.proofs.runs.Runs.iter.Goals as goal
 
 -- The iterator gives the entries of the map.

@@ -1,5 +1,5 @@
 use Rattle.std.proofs.Common.{arith, refl}
-use Rattle.rsb_runs.proofs.lemmas.order.EndRuns.{last-run, length-runs_of, no-items}
+use Rattle.rsb_runs.proofs.lemmas.runs.EndEntries.{last-run, length-runs_of, no-items}
 use Rattle.rsb_runs.proofs.runs.Runs.last.Goals as goal
 
 -- If there is no entry, there is no run.

@@ -11,7 +11,7 @@ use Rattle.std.proofs.lemmas.Bool.{cases_lt}
 use Rattle.std.proofs.lemmas.Bool.Decides.{nat_tests}
 use Rattle.rsb_integer.specs.Runs.{Interval, members}
 use Rattle.rsb_integer.specs.Selection.{Selection, Agree, exclusive_or}
-use Rattle.rsb_runs.specs.Order.{agree_below, elements_from, order, DiffersAt, HasLater, IsLess, HasOrder}
+use Rattle.range_set_blaze.specs.Order.{agree_below, elements_from, order, DiffersAt, HasLater, IsLess, HasOrder}
 
 -- ---- tests
 

@@ -1,8 +1,7 @@
 -- The least and the greatest member of a set that is stored as its runs, and whether it has any.
-use Rattle.std.proofs.Common.{◌≡◌, ◌↔◌, ℕ, zero, suc, ◌+◌, ◌-◌, ◌<◌, ◌≤◌, true, List, [], ◌∷◌, length, get_or, slice_get, Option, Some, None, MatchOption, option_map, refl, sym, ◌∙◌, ap, inl, inr, subst, arith}
+use Rattle.std.proofs.Common.{◌≡◌, ◌↔◌, ℕ, zero, suc, ◌+◌, ◌-◌, ◌<◌, ◌≤◌, true, List, [], ◌∷◌, length, get_or, slice_get, Some, refl, sym, ◌∙◌, inl, inr, subst, arith}
 use Rattle.std.proofs.lemmas.Bool.{cases_lt}
-use Rattle.std.proofs.lemmas.List.{length-map}
-use Rattle.std.proofs.lemmas.Option.{get_or_from_slice_get, slice_get-map, slice_get_within}
+use Rattle.std.proofs.lemmas.Option.{get_or_from_slice_get, slice_get_within}
 use Rattle.std.proofs.lemmas.List.Elements.{All-cons, All-nil}
 use Rattle.rsb_integer.specs.Runs.{Interval, members, AllEndBelow, IsCanonical, IsCanonicalFrom, IsCanonicalIn}
 use Rattle.rsb_integer.specs.Selection.{Selection, count, IsUniversal, IsEmpty}
@@ -10,10 +9,9 @@ use Rattle.rsb_integer.proofs.lemmas.Count.{count-all, count-less, count-none, c
 use Rattle.rsb_integer.proofs.lemmas.List.{not_both, true_or_false}
 use Rattle.rsb_integer.proofs.lemmas.Members.{covers-inside, members-below, members-end, members-head}
 use Rattle.rsb_integer.proofs.lemmas.Runs.{canonical-maximal}
-use Rattle.rsb_runs.specs.Storage.{entry_of, entry_run, run_of, runs_of, IsKept}
+use Rattle.rsb_runs.specs.Storage.{IsKept}
 use Rattle.rsb_runs.specs.Set.{IsGreatest, IsLeast}
 use Rattle.rsb_runs.specs.Starts.{StartsWith}
-use Rattle.rsb_runs.specs.declared.run.Run.{Run}
 
 -- The last run of a canonical list ends at `low` or later, and no run ends after it.
 pub ends-last : (low i : ℕ) (runs : List Interval) (run : Interval) → IsCanonicalFrom low runs
@@ -38,55 +36,12 @@ ends-last low (suc i) (first ∷ runs) run canonical last =
           (omega arith) rest.1,
     )
 
--- There are as many runs as entries.
-pub length-runs_of : {T : Type 0} (rank : T → ℕ) (entries : List (T × T))
-    → length (runs_of rank entries) ≡ length entries
-length-runs_of rank entries = length-map entries (entry_run rank)
-
--- A list with no items is the empty list.
-pub no-items : {X : Type 0} (items : List X) → (length items ≡ 0) ↔ (items ≡ [])
-no-items [] = ((λ none. refl), (λ none. refl))
-no-items (item ∷ items) = ((λ none. absurd (omega (arith, none))), (λ none. absurd (cc)))
-
 -- No runs and the length 0 represent the empty set.
 pub kept-nil : (n kept : ℕ) → kept ≡ 0 → IsKept n [] kept
 kept-nil n kept none = record {
   canonical = (tt, All-nil (λ (each : Interval). each.last < n));
   length = none ∙ sym (count-none n (members []) (λ point below. refl));
 }
-
--- ---- the ends of a list of entries
-
-module _ {T : Type 0} (rank : T → ℕ) where
-  -- The first entry is that of the first run.
-  pub first-run : (entries : List (T × T)) (first : T × T) → slice_get entries 0 ≡ Some first
-      → StartsWith (runs_of rank entries) (entry_run rank first)
-  first-run [] first found = absurd (cc)
-  first-run (entry ∷ entries) first found = record {
-    rest = runs_of rank entries;
-    parts = ap (λ (each : T × T). entry_run rank each ∷ runs_of rank entries)
-        (get_or_from_slice_get (entry ∷ entries) 0 first first found);
-  }
-
-  -- The last entry is that of the last run.
-  pub last-run : (entries : List (T × T)) (last : T × T)
-      → slice_get entries (length entries - 1) ≡ Some last
-      → slice_get (runs_of rank entries) (length (runs_of rank entries) - 1)
-      ≡ Some (entry_run rank last)
-  last-run entries last found =
-      rw (length-runs_of rank entries)
-      (slice_get-map (entry_run rank) entries (length entries - 1)
-      ∙ ap (option_map (entry_run rank)) found)
-
-  -- If the entries start with the entry of a run, their runs start with that run. If there are no
-  -- entries, there are no runs.
-  pub first-entry : (entries later : List (T × T)) (first : Option (Run T))
-      → MatchOption first (entries ≡ []) (λ run. entries ≡ entry_of run ∷ later)
-      → MatchOption first (runs_of rank entries ≡ [])
-      (λ run. StartsWith (runs_of rank entries) (run_of rank run))
-  first-entry entries later None none = ap (runs_of rank) none
-  first-entry entries later (Some run) is =
-      record { rest = runs_of rank later; parts = ap (runs_of rank) is }
 
 -- ---- the ends of a set
 

@@ -1,2 +1,0 @@
--- The first and last runs.
-pub mod EndRuns
