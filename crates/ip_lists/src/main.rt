@@ -1,7 +1,7 @@
 //! Set operations on lists of IP addresses (docs/DECISIONS.md, program-is-main).
 #![tactic(auto)]
 
-use address_commands::{SystemInputs, start};
+use ip_commands::{SystemInputs, start};
 use std::env;
 use std::io::{self, BufWriter};
 use std::process::ExitCode;

@@ -4,7 +4,7 @@ use Rattle.rsb_integer.specs.Prefix.{IsPrefix}
 use Rattle.rsb_integer.specs.Rank.{intervals_of}
 use Rattle.rsb_integer.specs.Runs.{Interval, members}
 use Rattle.rsb_integer.specs.Selection.{Selection, any_of}
-use Rattle.rsb_runs.specs.Set.{only, Adds, IsSetOf}
+use Rattle.rsb_storage.specs.Set.{only, Adds, IsSetOf}
 use Rattle.std.specs.declared.ops.RangeInclusive.{RangeInclusive}
 
 -- Whether the members of the set are exactly the ranks of the items. This definition, `AddsItems`

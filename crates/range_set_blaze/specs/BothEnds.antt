@@ -9,7 +9,7 @@ use Rattle.rsb_integer.specs.Selection.{Selection, difference, IsEmpty}
 use Rattle.rsb_streams.specs.Fused.{Fused, fused_can, fused_may_give}
 use Rattle.rsb_streams.specs.Listed.{listed_may_give}
 use Rattle.rsb_streams.specs.Stream.{Outcomes, ◌⊆◌, run_if_any}
-use Rattle.rsb_runs.specs.Set.{only, IsGreatest, IsLeast}
+use Rattle.rsb_storage.specs.Set.{only, IsGreatest, IsLeast}
 use Rattle.range_set_blaze.specs.declared.iter.Iter.{Iter}
 
 -- ---- one element is removed from a set

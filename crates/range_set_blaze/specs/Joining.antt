@@ -2,12 +2,12 @@
 use Rattle.std.specs.Prelude.{◌≡◌, ℕ, true, false, ◌||◌, ◌+◌, ◌<◌, ◌≤◌, List, Option, MatchOption, Contains}
 use Rattle.rsb_integer.specs.Runs.{Interval, covers, members, IsCanonicalIn}
 use Rattle.rsb_integer.specs.Selection.{count, LacksSome}
-use Rattle.rsb_runs.specs.Storage.{run_of, IsKept}
-use Rattle.rsb_runs.specs.Set.{Adds}
-use Rattle.rsb_runs.specs.Starts.{with_run}
-use Rattle.rsb_runs.specs.declared.run.Run.{Run}
+use Rattle.rsb_storage.specs.Storage.{run_of, IsKept}
+use Rattle.rsb_storage.specs.Set.{Adds}
+use Rattle.rsb_storage.specs.Starts.{with_run}
+use Rattle.rsb_storage.specs.declared.run.Run.{Run}
 use Rattle.range_set_blaze.specs.declared.set.insert.Joining.{Joining}
-pub use Rattle.rsb_runs.specs.Set.{HasAll}
+pub use Rattle.rsb_storage.specs.Set.{HasAll}
 
 -- ---- runs that start inside another
 

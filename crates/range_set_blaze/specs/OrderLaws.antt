@@ -63,7 +63,7 @@ agree-more n left right below here rank within = elim (cases_lt rank n) [
       subst (λ each. left each ≡ right each) at here
 ]
 
--- `same` is true of sets that agree.
+-- `agree_below` is true of sets that agree.
 pub agree-same : (n : ℕ) (left right : Selection) → Agree n left right
     → agree_below n left right ≡ true
 unfolding agree_below
@@ -72,7 +72,7 @@ agree-same (suc n) left right all =
     rw (all n (omega arith), exclusive-self)
     (agree-same n left right (λ rank below. all rank (omega arith)))
 
--- `same` is true only of sets that agree.
+-- `agree_below` is true only of sets that agree.
 pub same-agree : (n : ℕ) (left right : Selection) → agree_below n left right ≡ true
     → Agree n left right
 unfolding agree_below

@@ -2,8 +2,8 @@
 use Rattle.std.specs.Prelude.{◌≡◌, ℕ, ◌&&◌, ◌||◌, nat_lt, ◌+◌, List, Contains}
 use Rattle.rsb_integer.specs.Runs.{Interval, covers, length_of, members, IsCanonicalIn}
 use Rattle.rsb_integer.specs.Selection.{count}
-use Rattle.rsb_runs.specs.Set.{Removes}
-use Rattle.rsb_runs.specs.Starts.{without_start}
+use Rattle.rsb_storage.specs.Set.{Removes}
+use Rattle.rsb_storage.specs.Starts.{without_start}
 
 -- Whether the new runs are canonical and have the members of the old ones except the ranks of the
 -- piece, all of which were members.

@@ -2,8 +2,8 @@
 use Rattle.std.specs.Prelude.{◌≡◌, ℕ, ◌+◌, ◌<◌, ◌≤◌, max, min, List, IsTrue, IsFalse}
 use Rattle.rsb_integer.specs.Runs.{Interval, covers, members}
 use Rattle.rsb_integer.specs.Selection.{Selection}
-use Rattle.rsb_runs.specs.Storage.{IsKept}
-use Rattle.rsb_runs.specs.Starts.{IsLastBelow}
+use Rattle.rsb_storage.specs.Storage.{IsKept}
+use Rattle.rsb_storage.specs.Starts.{IsLastBelow}
 
 -- Whether the set has one of the ranks.
 abbrev pub HasSome : Selection → Selection → Type 0

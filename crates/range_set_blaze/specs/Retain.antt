@@ -9,8 +9,8 @@ use Rattle.rsb_integer.specs.Prefix.{IsPrefix}
 use Rattle.rsb_integer.specs.Rank.{interval_of, intervals_of}
 use Rattle.rsb_integer.specs.Runs.{Interval, covers, from_to, length_of, members, IsMaximalRun}
 use Rattle.rsb_integer.specs.Selection.{Selection}
-use Rattle.rsb_runs.specs.Storage.{run_of, runs_of}
-use Rattle.rsb_runs.specs.declared.run.Run.{Run}
+use Rattle.rsb_storage.specs.Storage.{run_of, runs_of}
+use Rattle.rsb_storage.specs.declared.run.Run.{Run}
 
 -- The given number of consecutive ranks, starting at `first`.
 unfoldable pub ranks_from : ℕ → ℕ → List ℕ

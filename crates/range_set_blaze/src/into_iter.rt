@@ -7,7 +7,7 @@ ghost use Rattle.range_set_blaze.specs.BothEnds.{TakesGreatest, TakesLeast};
 
 use crate::iter::Iter;
 use rsb_integer::Integer;
-use rsb_runs::into_ranges_iter::IntoRangesIter;
+use rsb_storage::into_ranges_iter::IntoRangesIter;
 use std::alloc::{Allocator, Global};
 use std::iter::FusedIterator;
 use std::marker::Model;

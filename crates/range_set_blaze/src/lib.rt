@@ -27,5 +27,5 @@ pub use crate::prelude::{
 
 /// The functions that the macros call.
 pub use rsb_many::taken;
-pub use rsb_runs::{gaps_in, into_ranges_iter, ranges_in, ranges_iter};
-pub use rsb_text::parse_integer;
+pub use rsb_range_text::parse_integer;
+pub use rsb_storage::{gaps_in, into_ranges_iter, ranges_in, ranges_iter};

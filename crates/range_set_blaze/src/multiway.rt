@@ -8,13 +8,13 @@ ghost use Rattle.rsb_integer.specs.Selection.{all_of, any_of, at_least, odd_of};
 ghost use Rattle.rsb_streams.specs.Items.{GaveRun, IsEnding};
 ghost use Rattle.rsb_streams.specs.Stream.{◌⊆◌, just};
 ghost use Rattle.range_set_blaze.specs.Multiway.{HasRunsOfAllAtMost, IsMadeOf};
-ghost use Rattle.rsb_runs.specs.Set.{IsSetOf};
+ghost use Rattle.rsb_storage.specs.Set.{IsSetOf};
 
 use crate::set::RangeSetBlaze;
 use rsb_integer::Integer;
 use rsb_many::MultiwaySortedDisjoint;
-use rsb_runs::into_ranges_iter::IntoRangesIter;
-use rsb_runs::ranges_iter::RangesIter;
+use rsb_storage::into_ranges_iter::IntoRangesIter;
+use rsb_storage::ranges_iter::RangesIter;
 use rsb_streams::{Draw, DrawDisjoint};
 use std::alloc::{AllocError, Allocator};
 

@@ -20,11 +20,11 @@ pub use rsb_many::{
     DynSortedDisjoint, KMerge, MultiwayAtLeast, MultiwayIntersection, MultiwaySortedDisjoint,
     MultiwaySweep, MultiwaySymmetricDifference, MultiwayUnion, Streams, SweepEvent,
 };
-pub use rsb_runs::{GapsIn, IntoRangesIter, RangesIn, RangesIter};
+pub use rsb_range_text::{ParseError, ParseInteger};
+pub use rsb_storage::{GapsIn, IntoRangesIter, RangesIn, RangesIter};
 pub use rsb_streams::{
     AnythingGoes, AssumeSortedStarts, CheckSortedDisjoint, CheckSortedTouching, Difference, Draw,
     DrawDisjoint, FillGapsIter, Intersection, Merge, NotIter, NotSortedDisjoint, NotSortedTouching,
     RangeOnce, SortedDisjoint, SortedStarts, SortedStartsInVec, SortedTouching, SymDiffIter,
     SymmetricDifference, Union, UnionIter,
 };
-pub use rsb_text::{ParseError, ParseInteger};

@@ -6,7 +6,7 @@ ghost use Rattle.std.specs.Prelude.{◌≡◌, ◌↔◌, ◌<◌, [], length, I
 ghost use Rattle.rsb_integer.specs.Rank.{intervals_of};
 ghost use Rattle.rsb_integer.specs.Runs.{members, AreRuns, IsCanonicalIn};
 ghost use Rattle.rsb_integer.specs.Selection.{count, IsEmpty};
-ghost use Rattle.rsb_runs.specs.Set.{IsGreatest, IsLeast};
+ghost use Rattle.rsb_storage.specs.Set.{IsGreatest, IsLeast};
 
 mod algebra;
 mod apart;
@@ -41,8 +41,8 @@ mod windows_asked;
 
 use num_traits::Zero;
 use rsb_integer::Integer;
-use rsb_runs::ranges_iter::RangesIter;
-use rsb_runs::runs::Runs;
+use rsb_storage::ranges_iter::RangesIter;
+use rsb_storage::runs::Runs;
 use std::alloc::{Allocator, Global};
 use std::marker::Model;
 
@@ -60,7 +60,7 @@ pub struct RangeSetBlaze<T: Integer, A: Allocator = Global> {
 impl<T: Integer, A: Allocator> Model for RangeSetBlaze<T, A> {
     ghost use Rattle.std.specs.Prelude.{List};
     ghost use Rattle.rsb_integer.specs.Runs.{Interval};
-    ghost use Rattle.rsb_runs.specs.Storage.{IsKept};
+    ghost use Rattle.rsb_storage.specs.Storage.{IsKept};
 
     ghost Value = { List Interval };
 

@@ -1,3 +1,2 @@
 pub mod replying
-pub mod streaming
 pub mod writing

@@ -4,8 +4,8 @@ use Rattle.std.specs.Int.{w32}
 use Rattle.std.specs.Io.KnownBytes.{Appends, Keeps}
 use Rattle.std.specs.Option.{IsSomeAnd}
 use Rattle.rsb_integer.specs.Rank.{signed_rank}
-use Rattle.rsb_parser.specs.declared.command.Command.{Command}
-use Rattle.rsb_parser.specs.Spelling.{AreCommands}
+use Rattle.rsb_command_parser.specs.declared.command.Command.{Command}
+use Rattle.rsb_command_parser.specs.Spelling.{AreCommands}
 use Rattle.rsb_commands.specs.Interpreter.{AreReplies, Content, MayTakeMemory}
 use Rattle.rsb_commands.specs.Text.{text}
 use Rattle.rsb_commands.specs.Transfer.{CutsShort}

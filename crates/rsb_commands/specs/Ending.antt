@@ -1,11 +1,11 @@
 -- What the program leaves for each outcome: the exit status, the line of a fault, and the replies.
 use Rattle.std.specs.Prelude.{◌≡◌, ℕ, List, ◌++◌, IfSome, MatchResult, Option, Result, Ok, Err, codes}
 use Rattle.std.specs.Io.KnownBytes.{IsAtEnd, Keeps}
-use Rattle.rsb_parser.specs.declared.fault.Fault.{Fault}
-use Rattle.rsb_parser.specs.declared.fault.Fault.TheVariants.{BadLine, NoMemory, Io}
-use Rattle.rsb_parser.specs.Fault.{fault_line, status_of}
-use Rattle.rsb_parser.specs.Input.{HasBytes}
-use Rattle.rsb_parser.specs.Spelling.{IsFirstBadLine}
+use Rattle.rsb_command_parser.specs.declared.fault.Fault.{Fault}
+use Rattle.rsb_command_parser.specs.declared.fault.Fault.TheVariants.{BadLine, NoMemory, Io}
+use Rattle.rsb_command_parser.specs.Fault.{fault_line, status_of}
+use Rattle.rsb_command_parser.specs.Input.{HasBytes}
+use Rattle.rsb_command_parser.specs.Spelling.{IsFirstBadLine}
 use Rattle.rsb_commands.specs.Answer.{WritesReplies, KeepsWithoutCommands, WroteFirstReplies, WrotePartOfReplies}
 use Rattle.rsb_commands.specs.Transfer.{AppendsPrefixOf}
 

@@ -7,8 +7,8 @@ use Rattle.rsb_integer.specs.Runs.{Interval, AreRuns, covers, members, from_to}
 use Rattle.rsb_integer.specs.Selection.{Selection, at_least, complement, count, difference, intersection, symmetric_difference, union, complement_in, LacksSome}
 use Rattle.range_set_blaze.specs.Order.{HasOrder}
 use Rattle.range_set_blaze.specs.Set.{only, IsRunAround}
-use Rattle.rsb_parser.specs.declared.command.Command.{Command}
-use Rattle.rsb_parser.specs.declared.command.Command.TheVariants.{Add, Del, Has, Gap, Count, Show, Union, Intersection, Difference, SymmetricDifference, Complement, Most, Compare}
+use Rattle.rsb_command_parser.specs.declared.command.Command.{Command}
+use Rattle.rsb_command_parser.specs.declared.command.Command.TheVariants.{Add, Del, Has, Gap, Count, Show, Union, Intersection, Difference, SymmetricDifference, Complement, Most, Compare}
 use Rattle.rsb_commands.specs.declared.interpreter.Reply.{Reply}
 use Rattle.rsb_commands.specs.declared.interpreter.Reply.TheVariants as replies
 

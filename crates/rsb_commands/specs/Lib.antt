@@ -4,4 +4,3 @@ pub mod Interpreter
 pub mod Page
 pub mod Text
 pub mod Transfer
-pub mod Weekends

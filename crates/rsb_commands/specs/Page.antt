@@ -2,8 +2,8 @@
 -- page has no `Model`: that would hide the reference, and with it what the writer has at the end.
 use Rattle.std.specs.Prelude.{◌≡◌, ℕ, List, ◌++◌, MatchResult, Option, Result}
 use Rattle.std.specs.Io.KnownBytes.{Appends}
-use Rattle.rsb_parser.specs.declared.fault.Fault.{Fault}
-use Rattle.rsb_parser.specs.declared.fault.Fault.TheVariants.{Io}
+use Rattle.rsb_command_parser.specs.declared.fault.Fault.{Fault}
+use Rattle.rsb_command_parser.specs.declared.fault.Fault.TheVariants.{Io}
 use Rattle.rsb_commands.specs.declared.page.Page.{Page}
 use Rattle.rsb_commands.specs.Transfer.{AppendsShortOf}
 

@@ -2,8 +2,8 @@
 use Rattle.std.specs.Prelude.{◌≡◌, ℕ, ◌<◌, ◌⊎◌, List, [], length, MatchResult, Option, Result}
 use Rattle.std.specs.Io.KnownBytes.{Appends, Keeps}
 use Rattle.rsb_integer.specs.Prefix.{IsPrefix}
-use Rattle.rsb_parser.specs.declared.fault.Fault.{Fault}
-use Rattle.rsb_parser.specs.declared.fault.Fault.TheVariants.{Io}
+use Rattle.rsb_command_parser.specs.declared.fault.Fault.{Fault}
+use Rattle.rsb_command_parser.specs.declared.fault.Fault.TheVariants.{Io}
 
 -- Whether a prefix of the text was added to the known bytes, and it is shorter than the text.
 pub record AppendsShortOf (old new : Option (List ℕ)) (text : List ℕ) : Type 0 where

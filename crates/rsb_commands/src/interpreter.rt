@@ -8,8 +8,8 @@ ghost use Rattle.range_set_blaze.specs.Set.{IsSetOf};
 ghost use Rattle.rsb_commands.specs.Interpreter.{AreReplies, Content, IsPieceReply, IsReply, IsRunsReply, MayTakeMemory, content_of, contents_of, most_of, no_members, put, sets_after, sets_of};
 
 use range_set_blaze::{MultiwayRangeSetBlazeRef, RangeSetBlaze};
+use rsb_command_parser::{Command, SetNo};
 use rsb_integer::Integer;
-use rsb_parser::{Command, SetNo};
 use std::alloc::{AllocError, Allocator, Global};
 use std::cmp::Ordering;
 use std::ops::RangeInclusive;

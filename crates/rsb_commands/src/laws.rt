@@ -1,8 +1,8 @@
 //! Laws of replies. Each function does nothing, and its clauses state the law.
 
 ghost use Rattle.std.specs.Prelude.{◌≡◌, ℕ, ℤ, All, List, take};
-ghost use Rattle.rsb_parser.specs.declared.command.Command.{Command};
-ghost use Rattle.rsb_parser.specs.Spelling.{AreCommands};
+ghost use Rattle.rsb_command_parser.specs.declared.command.Command.{Command};
+ghost use Rattle.rsb_command_parser.specs.Spelling.{AreCommands};
 ghost use Rattle.rsb_commands.specs.Answer.{AreNumberReplies};
 ghost use Rattle.rsb_commands.specs.Interpreter.{AreReplies, Content, NamesValues};
 

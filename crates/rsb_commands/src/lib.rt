@@ -11,4 +11,4 @@ mod transfer;
 
 pub use crate::interpreter::{Reply, Stopped, run_commands};
 pub use crate::program::{finish, run, start};
-pub use rsb_parser::{Command, Fault, SetNo, parse_commands, read_commands};
+pub use rsb_command_parser::{Command, Fault, SetNo, parse_commands, read_commands};

@@ -1,11 +1,5 @@
-//! Examples of what a user of `range_set_blaze` might write, with only its public names.
+//! The user-defined types and streams of `rsb_user_types`, by the names that they have here.
 
-pub mod counted;
-pub mod ordinal_weekends;
-pub mod side;
-pub mod slot;
-
-pub use crate::outside::counted::Counted;
-pub use crate::outside::ordinal_weekends::OrdinalWeekends;
-pub use crate::outside::side::Side;
-pub use crate::outside::slot::Slot;
+pub use rsb_user_types::{
+    Counted, OrdinalWeekends, Side, Slot, counted, ordinal_weekends, side, slot,
+};

@@ -5,7 +5,7 @@ ghost use Rattle.rsb_commands.specs.Page.{Lays, Waits, waiting_text};
 
 use crate::transfer::write_all;
 use arrayvec::ArrayVec;
-use rsb_parser::Fault;
+use rsb_command_parser::Fault;
 use std::io::Write;
 
 /// The number of bytes that a page holds.

@@ -2,7 +2,7 @@
 
 ghost use Rattle.rsb_commands.specs.Transfer.{Writes};
 
-use rsb_parser::Fault;
+use rsb_command_parser::Fault;
 use std::io::{ErrorKind, Write};
 
 /// Writes all of the text and returns the patience that is left: the number of further

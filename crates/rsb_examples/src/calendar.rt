@@ -19,7 +19,7 @@ ghost use Rattle.range_set_blaze.specs.Runs.{members};
 ghost use Rattle.range_set_blaze.specs.Set.{Adds};
 
 use range_set_blaze::{DrawDisjoint, RangeSetBlaze};
-use rsb_commands::outside::Slot;
+use rsb_user_types::Slot;
 use std::alloc::{AllocError, Global};
 use std::fmt::{self, Display, Formatter, Write};
 use std::io;

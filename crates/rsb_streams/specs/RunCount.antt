@@ -38,7 +38,7 @@ bounded_by_two n Bound operation P Q runs = SomeOutcomes P Q (λ left right.
     AreRuns n (operation (members left) (members right)) runs × Bound left right runs)
 
 -- ---- the results of operations. No proof search unfolds these definitions; the lemmas about them
--- are in `proofs/calling/RunCounts.antt` (docs/DECISIONS.md, run-counts-closed).
+-- are in `proofs/lemmas/calling/RunCounts.antt` (docs/DECISIONS.md, run-counts-closed).
 
 -- Whether the result gives the runs of the complement of a stream, at most one more than the stream
 -- gives.

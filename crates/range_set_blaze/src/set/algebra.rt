@@ -5,7 +5,7 @@ ghost use Rattle.rsb_integer.specs.Runs.{members, AreRuns, Interval};
 ghost use Rattle.rsb_integer.specs.Selection.{difference, intersection, symmetric_difference, union, complement_in};
 ghost use Rattle.rsb_streams.specs.Stream.{◌⊆◌, just};
 ghost use Rattle.rsb_streams.specs.RunCount.{HasFewerRunsThanBoth, HasOneRunMoreAtMost, HasRunsOfBothAtMost};
-ghost use Rattle.rsb_runs.specs.Set.{IsSetOf};
+ghost use Rattle.rsb_storage.specs.Set.{IsSetOf};
 
 use crate::set::RangeSetBlaze;
 use crate::set::apart::{chained, lies_below};

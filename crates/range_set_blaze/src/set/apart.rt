@@ -5,8 +5,8 @@ ghost use Rattle.rsb_integer.specs.Runs.{IsCanonicalIn};
 
 use crate::set::RangeSetBlaze;
 use rsb_integer::Integer;
-use rsb_runs::run::{known, reaches};
-use rsb_runs::runs::Runs;
+use rsb_storage::run::{known, reaches};
+use rsb_storage::runs::Runs;
 use std::alloc::{AllocError, Allocator};
 
 /// Returns whether all members of one set lie below those of another, with a gap between.

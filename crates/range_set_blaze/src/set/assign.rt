@@ -5,7 +5,7 @@ ghost use Rattle.std.specs.Prelude.{◌≡◌, IsOk, OnErr, OnOk};
 ghost use Rattle.rsb_integer.specs.Runs.{members};
 ghost use Rattle.rsb_integer.specs.Selection.{difference, intersection, symmetric_difference, IsEmpty};
 ghost use Rattle.rsb_streams.specs.RunCount.{HasFewerRunsThanBoth, HasRunsOfBothAtMost};
-ghost use Rattle.rsb_runs.specs.Set.{IsSetOf};
+ghost use Rattle.rsb_storage.specs.Set.{IsSetOf};
 
 use crate::set::RangeSetBlaze;
 use rsb_integer::Integer;

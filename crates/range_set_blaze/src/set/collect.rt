@@ -5,7 +5,7 @@ ghost use Rattle.std.specs.Iterator.{ExtendsWithItems};
 ghost use Rattle.std.specs.Prelude.{OnOk};
 ghost use Rattle.rsb_streams.specs.Items.{GaveRun, IsEnding};
 ghost use Rattle.range_set_blaze.specs.Algebra.{ranks_of, AddsItems, AddsValues, IsSetOfItems};
-ghost use Rattle.rsb_runs.specs.Set.{IsSetOf};
+ghost use Rattle.rsb_storage.specs.Set.{IsSetOf};
 
 use crate::set::RangeSetBlaze;
 use rsb_integer::Integer;

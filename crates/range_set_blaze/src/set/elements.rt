@@ -11,7 +11,7 @@ ghost use Rattle.range_set_blaze.specs.BothEnds.{
   TakesGreatest,
   TakesLeast,
 };
-ghost use Rattle.rsb_runs.specs.Set.{ranks_in, IsSetOf};
+ghost use Rattle.rsb_storage.specs.Set.{ranks_in, IsSetOf};
 
 use crate::into_iter::IntoIter;
 use crate::iter::Iter;
@@ -19,7 +19,7 @@ use crate::set::RangeSetBlaze;
 use crate::set::algebra::intersection_of;
 use crate::set::insert::run_between;
 use rsb_integer::Integer;
-use rsb_runs::ranges_iter::RangesIter;
+use rsb_storage::ranges_iter::RangesIter;
 use rsb_streams::RangeOnce;
 use std::alloc::{AllocError, Allocator};
 use std::ops::RangeBounds;

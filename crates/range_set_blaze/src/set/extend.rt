@@ -6,12 +6,12 @@ ghost use Rattle.rsb_integer.specs.Rank.{interval_of, intervals_of};
 ghost use Rattle.rsb_integer.specs.Runs.{covers, members};
 ghost use Rattle.rsb_streams.specs.Items.{GaveAll, GaveRun, IsEnding};
 ghost use Rattle.range_set_blaze.specs.Algebra.{ranks_of, AddsPrefixOf, AddsItems, AddsValues};
-ghost use Rattle.rsb_runs.specs.Set.{Adds, IsSetOf};
+ghost use Rattle.rsb_storage.specs.Set.{Adds, IsSetOf};
 
 use crate::set::RangeSetBlaze;
 use crate::set::singles::Singles;
 use rsb_integer::Integer;
-use rsb_runs::run::run_of_range;
+use rsb_storage::run::run_of_range;
 use rsb_streams::UnsortedDisjoint;
 use std::alloc::{AllocError, Allocator};
 use std::ops::RangeInclusive;

@@ -1,8 +1,8 @@
 //! Sets from streams of ranges, and back.
 
 ghost use Rattle.std.specs.Prelude.{◌≡◌, IfOk};
-ghost use Rattle.rsb_runs.specs.Set.{IsSetOf};
-ghost use Rattle.rsb_runs.specs.Storage.{runs_of, IsKept};
+ghost use Rattle.rsb_storage.specs.Set.{IsSetOf};
+ghost use Rattle.rsb_storage.specs.Storage.{runs_of, IsKept};
 ghost use Rattle.rsb_integer.specs.Rank.{intervals_of, interval_of};
 ghost use Rattle.rsb_integer.specs.Runs.{members, IsCanonicalIn, covers};
 ghost use Rattle.rsb_integer.specs.Selection.{IsUniversal};
@@ -10,8 +10,8 @@ ghost use Rattle.rsb_integer.specs.Selection.{IsUniversal};
 use crate::set::RangeSetBlaze;
 use num_traits::Zero;
 use rsb_integer::Integer;
-use rsb_runs::into_ranges_iter::IntoRangesIter;
-use rsb_runs::runs::Runs;
+use rsb_storage::into_ranges_iter::IntoRangesIter;
+use rsb_storage::runs::Runs;
 use rsb_streams::{DrawDisjoint, RangeOnce};
 use std::alloc::{AllocError, Allocator};
 use std::ops::RangeInclusive;

@@ -7,7 +7,7 @@ ghost use Rattle.range_set_blaze.specs.HashLaws.{hashed_runs-same};
 
 use crate::set::RangeSetBlaze;
 use rsb_integer::Integer;
-use rsb_runs::entries::next_run;
+use rsb_storage::entries::next_run;
 use std::alloc::Allocator;
 use std::collections::btree_map::Iter;
 use std::hash::{Hash, Hasher};

@@ -5,17 +5,17 @@ ghost use Rattle.std.specs.Range.Bound.{bound_map};
 ghost use Rattle.rsb_integer.specs.Runs.{covers, length_of, members, IsCanonicalIn, HasRanks};
 ghost use Rattle.rsb_integer.specs.Selection.{IsEmpty, LacksSome};
 ghost use Rattle.range_set_blaze.specs.Joining.{HasAll, IsHull, IsInserted, IsJoining, IsReaching, IsUnreached};
-ghost use Rattle.rsb_runs.specs.Storage.{run_of, IsKept};
+ghost use Rattle.rsb_storage.specs.Storage.{run_of, IsKept};
 ghost use Rattle.rsb_streams.specs.RunCount.{HasOneRunMoreAtMost};
-ghost use Rattle.rsb_runs.specs.Starts.{IsLastBelow, IsLastTwo, NoneBelow};
-ghost use Rattle.rsb_runs.specs.Set.{first_rank, only, past_rank, ranks_in, Adds, IsReached};
+ghost use Rattle.rsb_storage.specs.Starts.{IsLastBelow, IsLastTwo, NoneBelow};
+ghost use Rattle.rsb_storage.specs.Set.{first_rank, only, past_rank, ranks_in, Adds, IsReached};
 
 use crate::set::RangeSetBlaze;
 use crate::set::take_in::take_in;
 use rsb_integer::Integer;
-use rsb_runs::lengths::{add_length, take_off_length};
-use rsb_runs::run::{Run, greater, is_below, known, next_or_greatest, previous, reaches};
-use rsb_runs::runs::Runs;
+use rsb_storage::lengths::{add_length, take_off_length};
+use rsb_storage::run::{Run, greater, is_below, known, next_or_greatest, previous, reaches};
+use rsb_storage::runs::Runs;
 use std::alloc::{AllocError, Allocator};
 use std::ops::{Bound, RangeBounds};
 

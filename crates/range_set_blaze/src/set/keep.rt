@@ -3,15 +3,15 @@
 ghost use Rattle.std.specs.Prelude.{◌≡◌, ◌+◌, ◌<◌, ◌≤◌, ℕ, [], ◌∷◌, None, Some, IfOk, IfSome, IsOk, IsTrue, OnErr, OnOk};
 ghost use Rattle.rsb_integer.specs.Runs.{members, IsCanonicalIn};
 ghost use Rattle.rsb_integer.specs.Selection.{intersection, union, Selection};
-ghost use Rattle.rsb_runs.specs.Storage.{run_of, runs_of};
+ghost use Rattle.rsb_storage.specs.Storage.{run_of, runs_of};
 ghost use Rattle.range_set_blaze.specs.Retain.{left_runs, past_piece, with_piece, AnswersByRank, AsksAll, AsksFront, CallableOnMembers, IsCanonicalBelow, IsPastFirst};
-ghost use Rattle.rsb_runs.specs.Set.{only, IsSetOf};
+ghost use Rattle.rsb_storage.specs.Set.{only, IsSetOf};
 
 use crate::set::RangeSetBlaze;
 use rsb_integer::Integer;
-use rsb_runs::entries::next_run;
-use rsb_runs::run::{Run, reaches};
-use rsb_runs::runs::Runs;
+use rsb_storage::entries::next_run;
+use rsb_storage::run::{Run, reaches};
+use rsb_storage::runs::Runs;
 use std::alloc::{AllocError, Allocator};
 use std::collections::btree_map::Iter;
 

@@ -7,7 +7,7 @@ ghost use Rattle.std.specs.Prelude.{◌≡◌};
 ghost use Rattle.range_set_blaze.specs.Lent.{lent_steps, HaveSameRanks};
 
 use rsb_integer::Integer;
-use rsb_runs::run::run_of_range;
+use rsb_storage::run::run_of_range;
 use std::ops::RangeInclusive;
 
 /// An iterator over ranges. Each has the members of a range that the inner iterator gives by

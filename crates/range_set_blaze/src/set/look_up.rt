@@ -4,14 +4,14 @@ ghost use Rattle.std.specs.Prelude.{◌≡◌, ◌↔◌, ◌<◌, IfSome, IsFal
 ghost use Rattle.rsb_integer.specs.Rank.{interval_of};
 ghost use Rattle.rsb_integer.specs.Runs.{members, IsCanonicalIn};
 ghost use Rattle.rsb_integer.specs.Selection.{complement, IsUniversal};
-ghost use Rattle.rsb_runs.specs.Starts.{IsGapEnd};
-ghost use Rattle.rsb_runs.specs.Set.{IsRunAround};
+ghost use Rattle.rsb_storage.specs.Starts.{IsGapEnd};
+ghost use Rattle.rsb_storage.specs.Set.{IsRunAround};
 
 use crate::set::RangeSetBlaze;
 use rsb_integer::Integer;
-use rsb_runs::look_up::run_at;
-use rsb_runs::run::{Run, known};
-use rsb_runs::runs::Runs;
+use rsb_storage::look_up::run_at;
+use rsb_storage::run::{Run, known};
+use rsb_storage::runs::Runs;
 use std::alloc::Allocator;
 use std::ops::RangeInclusive;
 

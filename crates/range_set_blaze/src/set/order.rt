@@ -9,8 +9,8 @@ ghost use Rattle.range_set_blaze.specs.OrderLaws.{set_cmp, set_eq, sets_equivale
 
 use crate::set::RangeSetBlaze;
 use rsb_integer::Integer;
-use rsb_runs::entries::next_run;
-use rsb_runs::runs::Runs;
+use rsb_storage::entries::next_run;
+use rsb_storage::runs::Runs;
 use std::alloc::Allocator;
 use std::cmp::Ordering;
 use std::collections::btree_map::Iter;

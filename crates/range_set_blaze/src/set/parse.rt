@@ -4,13 +4,13 @@ ghost use Rattle.std.specs.Prelude.{◌≡◌, ◌≢◌, ℕ, List, IfOk, Some}
 ghost use Rattle.std.specs.declared.ops.RangeInclusive.{RangeInclusive as Range};
 ghost use Rattle.rsb_integer.specs.Rank.{intervals_of};
 ghost use Rattle.rsb_integer.specs.Runs.{members, AreRuns, Interval, IsCanonicalIn};
-ghost use Rattle.rsb_runs.specs.Set.{IsSetOf};
+ghost use Rattle.rsb_storage.specs.Set.{IsSetOf};
 ghost use Rattle.range_set_blaze.specs.Written.{runs_text};
-ghost use Rattle.rsb_text.specs.Text.{IsFirstUnexpected, Spells};
+ghost use Rattle.rsb_range_text.specs.Text.{IsFirstUnexpected, Spells};
 
 use crate::set::RangeSetBlaze;
 use rsb_integer::Integer;
-use rsb_text::{ParseError, ParseInteger, spelled_ranges};
+use rsb_range_text::{ParseError, ParseInteger, spelled_ranges};
 use std::alloc::{AllocError, Allocator};
 use std::ops::RangeInclusive;
 

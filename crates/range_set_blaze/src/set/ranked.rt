@@ -3,17 +3,17 @@
 ghost use Rattle.std.specs.Prelude.{◌≡◌, ◌↔◌, ◌+◌, ◌<◌, ◌≤◌, IfSome, IsNone, IsTrue, MatchOption};
 ghost use Rattle.rsb_integer.specs.Runs.{length_of, members, HasRanks, IsCanonicalIn};
 ghost use Rattle.rsb_integer.specs.Selection.{count};
-ghost use Rattle.rsb_runs.specs.Storage.{run_of};
+ghost use Rattle.rsb_storage.specs.Storage.{run_of};
 ghost use Rattle.range_set_blaze.specs.Ranked.{IsPartBelow};
 
 use crate::set::RangeSetBlaze;
 use num_traits::{One, Zero};
 use rsb_integer::Integer;
 use rsb_length::SafeLength;
-use rsb_runs::entries::next_run;
-use rsb_runs::lengths::add_length;
-use rsb_runs::run::{Run, known};
-use rsb_runs::runs::Runs;
+use rsb_storage::entries::next_run;
+use rsb_storage::lengths::add_length;
+use rsb_storage::run::{Run, known};
+use rsb_storage::runs::Runs;
 use std::alloc::Allocator;
 
 impl<T: Integer, A: Allocator> RangeSetBlaze<T, A> {

@@ -3,16 +3,16 @@
 ghost use Rattle.std.specs.Prelude.{◌≡◌, ◌↔◌, ◌+◌, ◌<◌, ◌≤◌, ℕ, [], Contains, IfOk, IfSome, IsFalse, IsNone, IsOk, IsSome, IsTrue, OnErr, OnOk};
 ghost use Rattle.rsb_integer.specs.Runs.{members, IsCanonicalIn};
 ghost use Rattle.range_set_blaze.specs.BothEnds.{TakesGreatest, TakesLeast};
-ghost use Rattle.rsb_runs.specs.Storage.{run_of, IsKept};
+ghost use Rattle.rsb_storage.specs.Storage.{run_of, IsKept};
 ghost use Rattle.range_set_blaze.specs.Removal.{IsCutAbove, IsRemoved};
 ghost use Rattle.rsb_streams.specs.RunCount.{HasOneRunMoreAtMost};
-ghost use Rattle.rsb_runs.specs.Set.{only, IsLeast, Removes};
+ghost use Rattle.rsb_storage.specs.Set.{only, IsLeast, Removes};
 
 use crate::set::RangeSetBlaze;
 use rsb_integer::Integer;
-use rsb_runs::lengths::take_off_length;
-use rsb_runs::run::{Run, is_below, known};
-use rsb_runs::runs::Runs;
+use rsb_storage::lengths::take_off_length;
+use rsb_storage::run::{Run, is_below, known};
+use rsb_storage::runs::Runs;
 use std::alloc::{AllocError, Allocator};
 
 impl<T: Integer, A: Allocator + Clone> RangeSetBlaze<T, A> {

@@ -3,18 +3,18 @@
 ghost use Rattle.std.specs.Prelude.{◌≡◌, ◌↔◌, ◌+◌, ◌<◌, ◌≤◌, IfOk, IfSome, IsFalse, IsNone, IsOk, IsSome, IsTrue, MatchOption, OnErr, OnOk};
 ghost use Rattle.rsb_integer.specs.Runs.{covers, members, IsCanonicalIn};
 ghost use Rattle.rsb_integer.specs.Selection.{intersection, IsEmpty};
-ghost use Rattle.rsb_runs.specs.Storage.{run_of, IsKept};
+ghost use Rattle.rsb_storage.specs.Storage.{run_of, IsKept};
 ghost use Rattle.range_set_blaze.specs.RemoveRanges.{HasSome, IsCommon, IsLastMeeting, IsNarrowed, IsSameOutside, Lacks};
 ghost use Rattle.rsb_streams.specs.RunCount.{HasOneRunMoreAtMost};
-ghost use Rattle.rsb_runs.specs.Set.{past_rank, ranks_in, Removes};
+ghost use Rattle.rsb_storage.specs.Set.{past_rank, ranks_in, Removes};
 
 use crate::set::RangeSetBlaze;
 use crate::set::insert::run_between;
 use crate::set::remove::cut;
 use rsb_integer::Integer;
-use rsb_runs::lengths::take_off_length;
-use rsb_runs::run::{Run, greater};
-use rsb_runs::runs::Runs;
+use rsb_storage::lengths::take_off_length;
+use rsb_storage::run::{Run, greater};
+use rsb_storage::runs::Runs;
 use std::alloc::{AllocError, Allocator};
 use std::ops::RangeBounds;
 

@@ -5,15 +5,15 @@ ghost use Rattle.std.specs.List.{filter};
 ghost use Rattle.rsb_integer.specs.Runs.{Interval, members};
 ghost use Rattle.rsb_integer.specs.Selection.{intersection, IsSubset, Selection};
 ghost use Rattle.rsb_streams.specs.Sublists.{IsSublist};
-ghost use Rattle.rsb_runs.specs.Storage.{IsKept};
+ghost use Rattle.rsb_storage.specs.Storage.{IsKept};
 ghost use Rattle.range_set_blaze.specs.Retain.{AnswersByRank, AnswersByRun, AsksAll, AsksFront, AsksRuns, CallableOnMembers, CallableOnRuns};
-ghost use Rattle.rsb_runs.specs.Set.{IsSetOf};
+ghost use Rattle.rsb_storage.specs.Set.{IsSetOf};
 
 use crate::set::RangeSetBlaze;
 use crate::set::keep::kept_values;
 use rsb_integer::Integer;
-use rsb_runs::lengths::take_off_length;
-use rsb_runs::runs::Runs;
+use rsb_storage::lengths::take_off_length;
+use rsb_storage::runs::Runs;
 use std::alloc::{AllocError, Allocator};
 use std::ops::RangeInclusive;
 

@@ -3,18 +3,18 @@
 ghost use Rattle.std.specs.Prelude.{◌≡◌, ◌+◌, ◌<◌, ◌≤◌, Contains, IfOk, IsFalse, IsOk, OnErr, OnOk};
 ghost use Rattle.rsb_integer.specs.Runs.{members, IsCanonicalIn};
 ghost use Rattle.rsb_integer.specs.Selection.{count, intersection, IsEmpty};
-ghost use Rattle.rsb_runs.specs.Storage.{run_of};
-ghost use Rattle.rsb_runs.specs.Set.{IsSetOf, Removes};
-ghost use Rattle.rsb_runs.specs.Split.{from_on, IsParting};
+ghost use Rattle.rsb_storage.specs.Storage.{run_of};
+ghost use Rattle.rsb_storage.specs.Set.{IsSetOf, Removes};
+ghost use Rattle.rsb_storage.specs.Split.{from_on, IsParting};
 
 use crate::set::RangeSetBlaze;
 use num_traits::Zero;
 use rsb_integer::Integer;
-use rsb_runs::entries::next_run;
-use rsb_runs::lengths::add_length;
-use rsb_runs::look_up::run_over;
-use rsb_runs::run::{Run, is_below, known};
-use rsb_runs::runs::Runs;
+use rsb_storage::entries::next_run;
+use rsb_storage::lengths::add_length;
+use rsb_storage::look_up::run_over;
+use rsb_storage::run::{Run, is_below, known};
+use rsb_storage::runs::Runs;
 use std::alloc::{AllocError, Allocator};
 
 impl<T: Integer, A: Allocator + Copy> RangeSetBlaze<T, A> {

@@ -4,13 +4,13 @@ ghost use Rattle.std.specs.Prelude.{◌≡◌, ℕ, ◌+◌, ◌<◌, ◌≤◌,
 ghost use Rattle.rsb_integer.specs.Runs.{length_of, members, IsCanonicalIn};
 ghost use Rattle.rsb_integer.specs.Selection.{count};
 ghost use Rattle.range_set_blaze.specs.Joining.{IsInside, IsOver, KnowsInside, NoneInside};
-ghost use Rattle.rsb_runs.specs.Storage.{run_of};
-ghost use Rattle.rsb_runs.specs.Starts.{without_start};
+ghost use Rattle.rsb_storage.specs.Storage.{run_of};
+ghost use Rattle.rsb_storage.specs.Starts.{without_start};
 
 use rsb_integer::Integer;
-use rsb_runs::lengths::take_off_length;
-use rsb_runs::run::Run;
-use rsb_runs::runs::Runs;
+use rsb_storage::lengths::take_off_length;
+use rsb_storage::run::Run;
+use rsb_storage::runs::Runs;
 use std::alloc::Allocator;
 
 /// Removes the runs that start inside `run`, past its start. Returns the number of members of the

@@ -6,7 +6,7 @@ ghost use Rattle.range_set_blaze.specs.Written.{ends_text, runs_text};
 
 use crate::set::RangeSetBlaze;
 use rsb_integer::Integer;
-use rsb_runs::entries::next_run;
+use rsb_storage::entries::next_run;
 use std::alloc::Allocator;
 use std::collections::btree_map::Iter;
 use std::fmt::{self, Debug, Display, Formatter, Write};

@@ -3,16 +3,16 @@
 ghost use Rattle.std.specs.Prelude.{◌↔◌, ◌<◌, ◌≤◌, IsTrue};
 ghost use Rattle.rsb_integer.specs.Runs.{covers, members, IsCanonicalIn};
 ghost use Rattle.rsb_integer.specs.Selection.{intersection, IsEmpty};
-ghost use Rattle.rsb_runs.specs.Set.{HasAll};
-ghost use Rattle.rsb_runs.specs.Storage.{run_of};
-ghost use Rattle.rsb_runs.specs.Set.{ranks_in};
+ghost use Rattle.rsb_storage.specs.Set.{HasAll};
+ghost use Rattle.rsb_storage.specs.Storage.{run_of};
+ghost use Rattle.rsb_storage.specs.Set.{ranks_in};
 
 use crate::set::RangeSetBlaze;
 use crate::set::insert::run_between;
 use crate::set::remove_ranges::last_meeting;
 use rsb_integer::Integer;
-use rsb_runs::run::Run;
-use rsb_runs::runs::Runs;
+use rsb_storage::run::Run;
+use rsb_storage::runs::Runs;
 use std::alloc::Allocator;
 use std::ops::RangeBounds;
 

@@ -14,7 +14,7 @@ use Rattle.rsb_streams.specs.Stream.{run_if_any, outcomes_unless}
 use Rattle.rsb_streams.specs.declared.draw.Draw.{Ghosts as Stream}
 use Rattle.rsb_streams.proofs.lemmas.checking.Fresh.{none-if_empty, one-if_some}
 use Rattle.range_set_blaze.specs.BothEnds.{between_ends, elements_left, elements_ready, is_ready, ElementsReady, Gives, Takes}
-use Rattle.rsb_runs.specs.Set.{IsGreatest, IsLeast}
+use Rattle.rsb_storage.specs.Set.{IsGreatest, IsLeast}
 use Rattle.range_set_blaze.specs.declared.iter.Iter.{Iter}
 use Rattle.range_set_blaze.proofs.lemmas.elements.Shortened.{shorter-first, shorter-last, taken, IsShorter, IsTaken}
 

@@ -6,7 +6,7 @@ use Rattle.rsb_integer.specs.Runs.{Interval, cover, covers, length_of, members, 
 use Rattle.rsb_integer.proofs.lemmas.Canonical.{canonical-lower}
 use Rattle.rsb_integer.proofs.lemmas.Members.{members-below}
 use Rattle.rsb_streams.specs.Stream.{run_if_any}
-use Rattle.rsb_runs.specs.Set.{only, Removes}
+use Rattle.rsb_storage.specs.Set.{only, Removes}
 
 -- Whether `rest` is what is left of `run` without the rank `point`, if `run` has any ranks.
 pub record IsShorter (run rest : Interval) (point : ℕ) : Type 0 where

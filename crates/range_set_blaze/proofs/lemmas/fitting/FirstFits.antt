@@ -4,19 +4,19 @@ use Rattle.std.specs.List.{Contains}
 use Rattle.std.proofs.lemmas.Bool.{cases_lt}
 use Rattle.std.proofs.lemmas.Bool.Decides.{nat_tests}
 use Rattle.std.proofs.lemmas.List.Elements.{All-contains, All-head, All-tail}
-use Rattle.rsb_integer.specs.Runs.{Interval, covers, from_to, length_of, members, AllEndBelow, IsCanonicalFrom, IsCanonicalIn, IsMaximalRun}
+use Rattle.rsb_integer.specs.Runs.{Interval, from_to, length_of, members, AllEndBelow, IsCanonicalFrom, IsCanonicalIn, IsMaximalRun}
 use Rattle.rsb_integer.specs.Selection.{Selection, complement, intersection}
 use Rattle.rsb_integer.proofs.lemmas.Canonical.{canonical-lower, canonical-starts, canonical-tail}
 use Rattle.rsb_integer.proofs.lemmas.List.{not_both, Contains-cases, Contains-head, Contains-tail}
 use Rattle.rsb_integer.proofs.lemmas.Maximal.{maximal-around}
 use Rattle.rsb_integer.proofs.lemmas.Members.{covers-bounds, covers-inside, members-below, members-head, members-tail}
 use Rattle.rsb_integer.proofs.lemmas.Runs.{canonical-runs}
-use Rattle.rsb_runs.specs.FirstFit.{AllShorter, AllShorterBefore, HasAllFrom, IsFirstFit, IsFirstFree, IsFree}
-use Rattle.rsb_runs.specs.Split.{from_on}
-use Rattle.rsb_runs.specs.Starts.{runs_past}
-use Rattle.rsb_runs.proofs.lemmas.runs.Apart.{contained-maximal, contained-members, starting-members}
-use Rattle.rsb_runs.proofs.lemmas.runs.Starts.{starting-canonical_in, starting-contains}
-use Rattle.rsb_runs.proofs.lemmas.windows.Parts.{canonical-raise}
+use Rattle.rsb_storage.specs.FirstFit.{AllShorter, AllShorterBefore, HasAllFrom, IsFirstFit, IsFirstFree, IsFree}
+use Rattle.rsb_storage.specs.Split.{from_on}
+use Rattle.rsb_storage.specs.Starts.{runs_past}
+use Rattle.rsb_storage.proofs.lemmas.runs.Apart.{contained-maximal, contained-members, starting-members}
+use Rattle.rsb_storage.proofs.lemmas.runs.Starts.{starting-canonical_in, starting-contains}
+use Rattle.rsb_storage.proofs.lemmas.windows.Parts.{canonical-raise}
 
 -- ---- runs
 
@@ -27,14 +27,6 @@ pub record ArePassed (n len : ℕ) (all rest : List Interval) : Type 0 where
   pub passed : (run : Interval) → Contains all run → Contains rest run ⊎ (length_of run < len)
 
 module _ (n len : ℕ) (all : List Interval) (canonical : IsCanonicalIn n all) where
-  -- At first all runs are left.
-  pub passed-none : ArePassed n len all all
-  passed-none = record {
-    canonical = canonical;
-    among = λ run found. found;
-    passed = λ run found. inl found;
-  }
-
   module _ (run : Interval) (rest : List Interval) (left : ArePassed n len all (run ∷ rest)) where
     -- A run that is too short is passed.
     pub passed-next : length_of run < len → ArePassed n len all rest
@@ -312,13 +304,6 @@ module _ (n : ℕ) (runs : List Interval) (canonical : IsCanonicalIn n runs) whe
         | inr from ↦ let member = has rank from less in grind (arith, nat_tests, from, member)
       ])
 
--- From 0 on, the free ranks are those that no run has.
-pub free_from-0 : (runs : List Interval) → free_from 0 runs ≡ complement (members runs)
-free_from-0 runs = λ i rank. same rank i
-  where
-    same : (rank : ℕ) → free_from 0 runs rank ≡ complement (members runs) rank
-    same rank = grind (arith, nat_tests)
-
 -- ---- free blocks
 
 module _ (n : ℕ) (runs : List Interval) (value len start : ℕ) (from : value ≤ start) (some : 0 < len)
@@ -364,27 +349,9 @@ module _ (n : ℕ) (runs : List Interval) (value len start : ℕ) (from : value 
 
 module _ (n : ℕ) (runs : List Interval) (value len : ℕ) (gap : Interval)
     (fit : IsFirstFit n (free_from value runs) len gap) where
-  -- No rank of the gap is a member.
-  pub fit-free : (rank : ℕ) → covers gap rank ≡ true → members runs rank ≡ false
-  fit-free rank here =
-      let free = fit.maximal.whole rank here in
-      grind (arith, free)
-
   -- The gap starts at the value or past it.
   pub fit-from : value ≤ gap.first
   fit-from =
       let order = fit.maximal.in_order in
       let free = fit.maximal.whole gap.first (covers-inside gap gap.first (omega arith) order) in
       grind (arith, nat_tests, free)
-
-  -- A block fits at the start of the gap.
-  pub fit-block : IsFree n runs gap.first len
-  fit-block =
-      let order = fit.maximal.in_order in
-      let within = fit.maximal.in_type in
-      let long = fit.long in
-      record {
-        in_type = omega (arith, order, within, long);
-        free = λ rank more less.
-            fit-free rank (covers-inside gap rank more (omega (arith, less, long)));
-      }

@@ -13,10 +13,10 @@ use Rattle.rsb_integer.specs.Selection.{Selection, any_of, intersection, union}
 use Rattle.rsb_integer.proofs.lemmas.AnyOf.{any_of-one_more}
 use Rattle.rsb_integer.proofs.lemmas.Members.{members-cons}
 use Rattle.range_set_blaze.specs.Algebra.{ranks_of}
-use Rattle.rsb_runs.specs.Storage.{entry_of, runs_of}
+use Rattle.rsb_storage.specs.Storage.{entry_of, runs_of}
 use Rattle.range_set_blaze.specs.Retain.{left_runs, ranks_from, ascending_ranks, AnswersByRank, AsksAll, IsAsked, IsCanonicalBelow, IsNextMember}
-use Rattle.rsb_runs.specs.Set.{only, IsSetOf}
-use Rattle.rsb_runs.specs.declared.run.Run.{Run}
+use Rattle.rsb_storage.specs.Set.{only, IsSetOf}
+use Rattle.rsb_storage.specs.declared.run.Run.{Run}
 
 -- ---- canonical runs in a type
 

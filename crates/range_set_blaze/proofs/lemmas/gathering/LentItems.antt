@@ -13,7 +13,7 @@ use Rattle.rsb_integer.proofs.lemmas.Members.{members-cons}
 use Rattle.rsb_streams.specs.Items.{GaveAll}
 use Rattle.range_set_blaze.specs.Algebra.{IsSetOfItems}
 use Rattle.range_set_blaze.specs.Lent.{lent_steps, pointed_to}
-use Rattle.rsb_runs.specs.Set.{IsSetOf}
+use Rattle.rsb_storage.specs.Set.{IsSetOf}
 use Rattle.range_set_blaze.specs.declared.set.lent_ranges.LentRanges.{LentRanges}
 
 module _ {T : Type 0} where

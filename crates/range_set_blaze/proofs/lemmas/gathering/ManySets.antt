@@ -17,7 +17,7 @@ use Rattle.rsb_many.proofs.lemmas.inputs.HandedIn.{gave-each}
 use Rattle.rsb_many.proofs.lemmas.pieces.AtLeast.{few-one, few-these}
 use Rattle.rsb_many.proofs.lemmas.calling.Results.{runs_by_all-these, GiveThese}
 use Rattle.range_set_blaze.specs.Multiway.{HasRunsOfAllAtMost, IsMadeOf}
-use Rattle.rsb_runs.specs.Set.{IsSetOf}
+use Rattle.rsb_storage.specs.Set.{IsSetOf}
 use Rattle.range_set_blaze.proofs.lemmas.gathering.SetOperations.{set-of_runs}
 
 module _ {S : Type 0} (n : ℕ) (may_give : S → Outcomes) (given : S → List Interval)

@@ -12,8 +12,8 @@ use Rattle.rsb_integer.proofs.lemmas.Range.{interval_of-some}
 use Rattle.rsb_integer.proofs.lemmas.Canonical.{canonical-front, canonical-parts}
 use Rattle.rsb_streams.specs.StreamLaws.{settled_canonical_in}
 use Rattle.rsb_streams.specs.Stream.{Outcomes, ◌⊆◌, run_if_any, HasOutcome}
-use Rattle.rsb_runs.specs.Storage.{entry_run, runs_of}
-use Rattle.rsb_runs.proofs.lemmas.runs.Storage.{sum_by-within}
+use Rattle.rsb_storage.specs.Storage.{entry_run, runs_of}
+use Rattle.rsb_storage.proofs.lemmas.runs.Storage.{sum_by-within}
 
 -- What a stream may give at first (`all`), and after a call that returned `run`. The runs taken
 -- before that call are `taken`.

@@ -13,7 +13,7 @@ use Rattle.rsb_integer.proofs.lemmas.Runs.{runs-along, runs-canonical, runs-memb
 use Rattle.rsb_streams.specs.RunCount.{HasFewerRunsThanBoth, HasOneRunMoreAtMost, HasRunsOfBothAtMost}
 use Rattle.rsb_streams.specs.Stream.{◌⊆◌, just, runs_by, runs_by_two, Outcomes}
 use Rattle.rsb_many.proofs.lemmas.calling.Results.{settled_runs}
-use Rattle.rsb_runs.specs.Set.{IsSetOf}
+use Rattle.rsb_storage.specs.Set.{IsSetOf}
 
 -- If a selection ends within the type, a set with its runs has exactly its ranks.
 pub set-of_runs : (n : ℕ) (selected : Selection) (set : List Interval)

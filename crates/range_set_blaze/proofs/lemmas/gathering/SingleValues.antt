@@ -9,7 +9,7 @@ use Rattle.rsb_integer.specs.Runs.{Interval, members}
 use Rattle.rsb_integer.proofs.lemmas.Members.{members-cons}
 use Rattle.rsb_streams.specs.Items.{GaveAll}
 use Rattle.range_set_blaze.specs.Algebra.{ranks_of}
-use Rattle.rsb_runs.specs.Set.{IsSetOf}
+use Rattle.rsb_storage.specs.Set.{IsSetOf}
 use Rattle.range_set_blaze.specs.Singles.{range_of_one, singles_steps}
 use Rattle.range_set_blaze.specs.declared.set.singles.Singles.{Singles}
 

@@ -2,8 +2,8 @@
 use Rattle.std.proofs.Common.{◌≡◌, ℕ, Bool, true, ◌+◌, ◌&&◌, ◌||◌, nat_le, nat_lt, List, ◌∙◌, ap, arith}
 use Rattle.std.proofs.lemmas.Bool.Decides.{nat_tests}
 use Rattle.rsb_integer.specs.Runs.{Interval, covers, members}
-use Rattle.rsb_runs.specs.Set.{HasAll}
-use Rattle.rsb_runs.specs.Set.{only, Adds}
+use Rattle.rsb_storage.specs.Set.{HasAll}
+use Rattle.rsb_storage.specs.Set.{only, Adds}
 
 -- Adding the ranks from a rank to itself adds only that rank.
 pub adds-only : (old new : List Interval) (rank : ℕ)

@@ -7,13 +7,13 @@ use Rattle.rsb_integer.specs.Selection.{LacksSome}
 use Rattle.rsb_integer.specs.Runs.{Interval, covers, members, IsCanonicalIn}
 use Rattle.rsb_integer.proofs.lemmas.List.{not_both}
 use Rattle.rsb_integer.proofs.lemmas.Members.{covers-bounds, covers-inside, members-end}
-use Rattle.rsb_runs.specs.Set.{Adds}
+use Rattle.rsb_storage.specs.Set.{Adds}
 use Rattle.range_set_blaze.specs.Joining.{IsHull, IsInside, IsJoining, IsReaching, IsUnreached, KnowsInside, NoneInside}
-use Rattle.rsb_runs.specs.Storage.{run_of}
-use Rattle.rsb_runs.specs.Starts.{IsLastBelow, IsLastTwo, NoneBelow}
-use Rattle.rsb_runs.specs.declared.run.Run.{Run}
-use Rattle.rsb_runs.proofs.lemmas.runs.Apart.{contained-after, contained-before, contained-maximal, contained-members, contained-starts, last-gap, none-gap}
-use Rattle.rsb_runs.proofs.lemmas.runs.Storage.{le-fails}
+use Rattle.rsb_storage.specs.Storage.{run_of}
+use Rattle.rsb_storage.specs.Starts.{IsLastBelow, IsLastTwo, NoneBelow}
+use Rattle.rsb_storage.specs.declared.run.Run.{Run}
+use Rattle.rsb_storage.proofs.lemmas.runs.Apart.{contained-after, contained-before, contained-maximal, contained-members, contained-starts, last-gap, none-gap}
+use Rattle.rsb_storage.proofs.lemmas.runs.Storage.{le-fails}
 
 module _ {T : Type 0} (rank : T → ℕ) (n : ℕ) (runs : List Interval)
     (canonical : IsCanonicalIn n runs) where

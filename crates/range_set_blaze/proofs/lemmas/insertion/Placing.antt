@@ -8,12 +8,12 @@ use Rattle.rsb_integer.specs.Selection.{count}
 use Rattle.rsb_integer.proofs.lemmas.List.{true_or_false, not_both}
 use Rattle.rsb_integer.proofs.lemmas.Members.{covers-bounds, covers-inside}
 use Rattle.range_set_blaze.specs.Joining.{IsInside, IsJoining, IsOver, KnowsInside}
-use Rattle.rsb_runs.specs.Storage.{run_of}
-use Rattle.rsb_runs.specs.Starts.{with_run, without_start}
+use Rattle.rsb_storage.specs.Storage.{run_of}
+use Rattle.rsb_storage.specs.Starts.{with_run, without_start}
 use Rattle.range_set_blaze.specs.declared.set.insert.Joining.{Joining}
-use Rattle.rsb_runs.specs.declared.run.Run.{Run}
-use Rattle.rsb_runs.proofs.lemmas.runs.Apart.{contained-maximal, contained-one, starting-lacks, starting-members, with_run-members, without_start-joined}
-use Rattle.rsb_runs.proofs.lemmas.runs.Starts.{canonical-rises, starting-all, starting-canonical_in, starting-contains, with_run-contains, with_run-without_start, Contains-with_run}
+use Rattle.rsb_storage.specs.declared.run.Run.{Run}
+use Rattle.rsb_storage.proofs.lemmas.runs.Apart.{contained-maximal, contained-one, starting-lacks, starting-members, with_run-members, without_start-joined}
+use Rattle.rsb_storage.proofs.lemmas.runs.Starts.{canonical-rises, starting-all, starting-canonical_in, starting-contains, with_run-contains, with_run-without_start, Contains-with_run}
 
 module _ {T : Type 0} (rank : T → ℕ) (n : ℕ) (runs : List Interval)
     (canonical : IsCanonicalIn n runs) where

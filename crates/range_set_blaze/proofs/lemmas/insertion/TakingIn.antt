@@ -8,11 +8,11 @@ use Rattle.rsb_integer.proofs.lemmas.Count.{count-within}
 use Rattle.rsb_integer.proofs.lemmas.List.{true_or_false, not_both}
 use Rattle.rsb_integer.proofs.lemmas.Members.{covers-bounds, covers-inside, members-in}
 use Rattle.range_set_blaze.specs.Joining.{IsInside, IsOver, KnowsInside, NoneInside}
-use Rattle.rsb_runs.specs.Storage.{run_of}
-use Rattle.rsb_runs.specs.Starts.{with_run, without_start, LeavesApart, IsJoined}
-use Rattle.rsb_runs.specs.declared.run.Run.{Run}
-use Rattle.rsb_runs.proofs.lemmas.runs.Apart.{contained-maximal, contained-members, starting-lacks, with_run-joined, with_run-members, without_start-joined}
-use Rattle.rsb_runs.proofs.lemmas.runs.Starts.{canonical-rises, starting-contains, starting-with_run, with_run-contains, Contains-starting, Contains-with_run}
+use Rattle.rsb_storage.specs.Storage.{run_of}
+use Rattle.rsb_storage.specs.Starts.{with_run, without_start, LeavesApart, IsJoined}
+use Rattle.rsb_storage.specs.declared.run.Run.{Run}
+use Rattle.rsb_storage.proofs.lemmas.runs.Apart.{contained-maximal, contained-members, starting-lacks, with_run-joined, with_run-members, without_start-joined}
+use Rattle.rsb_storage.proofs.lemmas.runs.Starts.{canonical-rises, starting-contains, starting-with_run, with_run-contains, Contains-starting, Contains-with_run}
 
 module _ (n : ℕ) (now : List Interval) (joined : Interval) (others : ℕ)
     (over : IsOver n now joined others) where

@@ -12,8 +12,8 @@ use Rattle.rsb_integer.specs.Runs.{Interval, members, IsCanonicalFrom, IsCanonic
 use Rattle.rsb_integer.specs.Selection.{Selection}
 use Rattle.rsb_integer.proofs.lemmas.Canonical.{canonical-tail}
 use Rattle.rsb_integer.proofs.lemmas.Members.{covers-inside, same_interval}
-use Rattle.rsb_runs.specs.Storage.{run_of, runs_of}
-use Rattle.rsb_runs.specs.declared.run.Run.{Run}
+use Rattle.rsb_storage.specs.Storage.{run_of, runs_of}
+use Rattle.rsb_storage.specs.declared.run.Run.{Run}
 use Rattle.range_set_blaze.specs.Order.{elements_from, order, start_alike, AreTurns}
 use Rattle.range_set_blaze.specs.OrderLaws.{nat_cmp-greater, nat_cmp-same}
 use Rattle.range_set_blaze.proofs.lemmas.order.AlongRuns.{made-canonical}

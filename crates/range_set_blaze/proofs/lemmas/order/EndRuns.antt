@@ -9,9 +9,9 @@ use Rattle.rsb_integer.proofs.lemmas.Count.{count-all, count-less, count-none, c
 use Rattle.rsb_integer.proofs.lemmas.List.{not_both, true_or_false}
 use Rattle.rsb_integer.proofs.lemmas.Members.{covers-inside, members-below, members-end, members-head}
 use Rattle.rsb_integer.proofs.lemmas.Runs.{canonical-maximal}
-use Rattle.rsb_runs.specs.Storage.{IsKept}
-use Rattle.rsb_runs.specs.Set.{IsGreatest, IsLeast}
-use Rattle.rsb_runs.specs.Starts.{StartsWith}
+use Rattle.rsb_storage.specs.Storage.{IsKept}
+use Rattle.rsb_storage.specs.Set.{IsGreatest, IsLeast}
+use Rattle.rsb_storage.specs.Starts.{StartsWith}
 
 -- The last run of a canonical list ends at `low` or later, and no run ends after it.
 pub ends-last : (low i : ℕ) (runs : List Interval) (run : Interval) → IsCanonicalFrom low runs

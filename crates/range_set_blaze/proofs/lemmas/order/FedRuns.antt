@@ -10,7 +10,7 @@ use Rattle.rsb_integer.specs.Runs.{Interval, members, AllEndBelow, IsCanonicalIn
 use Rattle.rsb_integer.specs.Selection.{Selection}
 use Rattle.rsb_integer.proofs.lemmas.Members.{covers-inside, members-end}
 use Rattle.range_set_blaze.specs.Hash.{selected_before, selected_below, bounds_from, ends_of_runs, run_bounds}
-use Rattle.rsb_runs.specs.Storage.{entry_run, runs_of}
+use Rattle.rsb_storage.specs.Storage.{entry_run, runs_of}
 use Rattle.range_set_blaze.proofs.lemmas.order.AlongRuns.{made-canonical}
 
 module _ (n : ℕ) (runs : List Interval) (run : Interval)

@@ -52,15 +52,6 @@ module _ (n : ℕ) (all rest : List Interval) (run : Interval) (bound counted : 
         let order = left.canonical.0.1 in
         omega (arith, next, sum, first, last, some, order)
 
-    -- This part is non-empty.
-    pub counted-some : part.first ≤ part.last
-    counted-some =
-        let first = is.first in
-        let last = is.last in
-        let some = is.some in
-        let order = left.canonical.0.1 in
-        omega (arith, first, last, some, order)
-
     -- The number that was counted, with this part, is at most n.
     pub counted-fits : counted + length_of part ≤ n
     counted-fits =
@@ -104,18 +95,6 @@ pub record AreLeft (n : ℕ) (all rest : List Interval) (wanted left : ℕ) : Ty
   pub same : (rank : ℕ) → from ≤ rank → members all rank ≡ members rest rank
   pub counted : (rank : ℕ) → from ≤ rank
       → count rank (members all) + left ≡ count rank (members rest) + wanted
-
--- At first all runs are left.
-pub left-all : (n : ℕ) (all : List Interval) (wanted : ℕ) → IsCanonicalIn n all
-    → AreLeft n all all wanted wanted
-left-all n all wanted canonical = record {
-  from = 0;
-  in_type = omega arith;
-  later = canonical.0;
-  within = canonical.1;
-  same = λ rank from. refl;
-  counted = λ rank from. refl;
-}
 
 module _ (n : ℕ) (all rest : List Interval) (run : Interval) (wanted left : ℕ)
     (are : AreLeft n all (run ∷ rest) wanted left) where

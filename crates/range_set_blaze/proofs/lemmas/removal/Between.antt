@@ -3,7 +3,7 @@ use Rattle.std.proofs.Common.{◌≡◌, ℕ, Bool, true, false, not, ◌&&◌, 
 use Rattle.std.proofs.lemmas.Bool.Decides.{nat_tests}
 use Rattle.rsb_integer.specs.Runs.{Interval, covers, members}
 use Rattle.rsb_integer.specs.Selection.{Selection, intersection, IsEmpty}
-use Rattle.rsb_runs.specs.Set.{Removes}
+use Rattle.rsb_storage.specs.Set.{Removes}
 
 -- The ranks from `low` on, up to the one before `past`.
 abbrev between : ℕ → ℕ → Selection

@@ -7,10 +7,10 @@ use Rattle.rsb_integer.specs.Selection.{count}
 use Rattle.rsb_integer.proofs.lemmas.List.{true_or_false, not_both}
 use Rattle.rsb_integer.proofs.lemmas.Members.{covers-bounds, covers-inside}
 use Rattle.range_set_blaze.specs.Removal.{IsCutAbove, IsRemoved}
-use Rattle.rsb_runs.specs.Starts.{with_run, without_start, LeavesApart, IsJoined}
-use Rattle.rsb_runs.specs.Set.{only, Removes}
-use Rattle.rsb_runs.proofs.lemmas.runs.Apart.{contained-maximal, with_run-joined, without_start-joined}
-use Rattle.rsb_runs.proofs.lemmas.runs.Starts.{starting-with_run, with_run-without_start, Contains-with_run}
+use Rattle.rsb_storage.specs.Starts.{with_run, without_start, LeavesApart, IsJoined}
+use Rattle.rsb_storage.specs.Set.{only, Removes}
+use Rattle.rsb_storage.proofs.lemmas.runs.Apart.{contained-maximal, with_run-joined, without_start-joined}
+use Rattle.rsb_storage.proofs.lemmas.runs.Starts.{starting-with_run, with_run-without_start, Contains-with_run}
 
 module _ (n : ℕ) (runs : List Interval) (canonical : IsCanonicalIn n runs) (run : Interval)
     (among : Contains runs run) (point : ℕ) (from : run.first ≤ point) (to : point ≤ run.last) where

@@ -5,13 +5,13 @@ use Rattle.rsb_integer.specs.Runs.{Interval, covers, length_of, members, IsCanon
 use Rattle.rsb_integer.specs.Selection.{count, intersection, IsEmpty}
 use Rattle.rsb_integer.proofs.lemmas.List.{true_or_false, not_both}
 use Rattle.rsb_integer.proofs.lemmas.Members.{covers-bounds, covers-inside}
-use Rattle.rsb_runs.specs.Set.{HasAll}
+use Rattle.rsb_storage.specs.Set.{HasAll}
 use Rattle.range_set_blaze.specs.RemoveRanges.{HasSome, IsCommon, IsLastMeeting, IsSameOutside, Lacks}
 use Rattle.range_set_blaze.specs.Removal.{IsRemoved}
-use Rattle.rsb_runs.specs.Set.{Removes}
-use Rattle.rsb_runs.specs.Starts.{IsLastBelow, NoneBelow}
-use Rattle.rsb_runs.proofs.lemmas.runs.Apart.{contained-after, contained-maximal, contained-members, last-gap, none-gap}
-use Rattle.rsb_runs.proofs.lemmas.runs.Storage.{lt-fails}
+use Rattle.rsb_storage.specs.Set.{Removes}
+use Rattle.rsb_storage.specs.Starts.{IsLastBelow, NoneBelow}
+use Rattle.rsb_storage.proofs.lemmas.runs.Apart.{contained-after, contained-maximal, contained-members, last-gap, none-gap}
+use Rattle.rsb_storage.proofs.lemmas.runs.Storage.{lt-fails}
 
 -- ---- ranges that meet no run
 

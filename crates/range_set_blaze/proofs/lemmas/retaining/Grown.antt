@@ -2,7 +2,7 @@
 use Rattle.std.proofs.Common.{◌≡◌, ℕ, ◌+◌, ◌≤◌, ◌||◌, arith}
 use Rattle.std.proofs.lemmas.Bool.Decides.{nat_tests}
 use Rattle.rsb_integer.specs.Runs.{covers, from_to}
-use Rattle.rsb_runs.specs.Set.{only}
+use Rattle.rsb_storage.specs.Set.{only}
 
 -- The interval of one rank has only that rank.
 pub covers-one : (point rank : ℕ) → covers (from_to point point) rank ≡ only point rank

@@ -15,12 +15,12 @@ use Rattle.rsb_integer.specs.Selection.{count}
 use Rattle.rsb_integer.proofs.lemmas.Canonical.{canonical-starts}
 use Rattle.rsb_integer.proofs.lemmas.List.{Contains-head}
 use Rattle.rsb_streams.specs.Sublists.{IsSublist}
-use Rattle.rsb_runs.specs.Storage.{run_of}
-use Rattle.rsb_runs.specs.Starts.{runs_past, without_start, IsJoined, StartsWith}
+use Rattle.rsb_storage.specs.Storage.{run_of}
+use Rattle.rsb_storage.specs.Starts.{runs_past, without_start, IsJoined, StartsWith}
 use Rattle.range_set_blaze.specs.Retain.{AnswersByRun, IsAsked, IsNextRun}
-use Rattle.rsb_runs.specs.declared.run.Run.{Run}
-use Rattle.rsb_runs.proofs.lemmas.runs.Apart.{contained-maximal, without_start-joined}
-use Rattle.rsb_runs.proofs.lemmas.runs.Starts.{starting-all, starting-contains, starting-starting}
+use Rattle.rsb_storage.specs.declared.run.Run.{Run}
+use Rattle.rsb_storage.proofs.lemmas.runs.Apart.{contained-maximal, without_start-joined}
+use Rattle.rsb_storage.proofs.lemmas.runs.Starts.{starting-all, starting-contains, starting-starting}
 
 -- ---- lists
 

@@ -9,10 +9,10 @@ use Rattle.rsb_integer.specs.Runs.{Interval, length_of, members, AllEndBelow, Is
 use Rattle.rsb_integer.proofs.lemmas.Canonical.{canonical-lower}
 use Rattle.rsb_integer.proofs.lemmas.Members.{members-append}
 use Rattle.rsb_streams.specs.RunCount.{HasRunsOfBothAtMost}
-use Rattle.rsb_runs.specs.Storage.{IsKept}
-use Rattle.rsb_runs.specs.Starts.{StartsWith}
+use Rattle.rsb_storage.specs.Storage.{IsKept}
+use Rattle.rsb_storage.specs.Starts.{StartsWith}
 use Rattle.range_set_blaze.proofs.lemmas.order.EndRuns.{ends-last}
-use Rattle.rsb_runs.proofs.lemmas.runs.Storage.{sum_by-canonical, sum_by-within}
+use Rattle.rsb_storage.proofs.lemmas.runs.Storage.{sum_by-canonical, sum_by-within}
 
 -- If runs end before a bound, with a gap between, others from there on may follow.
 canonical-append : (low bound : ℕ) (runs others : List Interval) → low ≤ bound + 1

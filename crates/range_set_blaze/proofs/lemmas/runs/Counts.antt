@@ -6,7 +6,7 @@ use Rattle.rsb_integer.specs.Selection.{difference, union}
 use Rattle.rsb_integer.proofs.lemmas.RunCount.{runs-with_interval, runs-without_interval}
 use Rattle.rsb_integer.proofs.lemmas.Runs.{canonical-runs, runs-from_canonical}
 use Rattle.rsb_streams.specs.RunCount.{HasOneRunMoreAtMost}
-use Rattle.rsb_runs.specs.Set.{only, Adds, Removes}
+use Rattle.rsb_storage.specs.Set.{only, Adds, Removes}
 
 module _ (n : ℕ) (old new : List Interval) (before : IsCanonicalIn n old)
     (after : IsCanonicalIn n new) where

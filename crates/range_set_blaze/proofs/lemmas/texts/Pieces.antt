@@ -8,7 +8,7 @@ use Rattle.std.specs.Prelude.{All}
 use Rattle.std.specs.Fmt.{◌++?◌, HasWritten, IsPlainFormatter, debug_items, comma_space}
 use Rattle.rsb_integer.specs.Runs.{IsMaximalRun}
 use Rattle.rsb_integer.specs.Selection.{Selection}
-use Rattle.rsb_runs.specs.Storage.{entry_run, runs_of}
+use Rattle.rsb_storage.specs.Storage.{entry_run, runs_of}
 use Rattle.range_set_blaze.specs.Written.{ends_text, run_text}
 
 -- If a fact holds of an optional text and there is a text, the fact holds of that text.

@@ -11,9 +11,9 @@ use Rattle.rsb_integer.specs.Rank.{intervals_of, range_of}
 use Rattle.rsb_integer.specs.Runs.{Interval, members, AreRuns, IsCanonicalIn, IsMaximalRun}
 use Rattle.rsb_integer.specs.Selection.{Selection}
 use Rattle.rsb_integer.proofs.lemmas.Runs.{canonical-maximal, canonical-runs, runs-same}
-use Rattle.rsb_text.specs.Numbers.{AreNumbers}
-use Rattle.rsb_runs.specs.Set.{IsSetOf}
-use Rattle.rsb_text.specs.Text.{BlanksThen, DigitsThen, EndThen, HasDigit, NumberThen, NumeralThen, OthersFollow, SignedThen, Spells, StartThen, signed_by}
+use Rattle.rsb_range_text.specs.Numbers.{AreNumbers}
+use Rattle.rsb_storage.specs.Set.{IsSetOf}
+use Rattle.rsb_range_text.specs.Text.{BlanksThen, DigitsThen, EndThen, HasDigit, NumberThen, NumeralThen, OthersFollow, SignedThen, Spells, StartThen, signed_by}
 use Rattle.range_set_blaze.specs.Written.{ends_text, runs_text}
 use Rattle.range_set_blaze.proofs.lemmas.texts.Pieces.{parted}
 

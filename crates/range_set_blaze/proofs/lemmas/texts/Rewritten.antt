@@ -3,7 +3,7 @@ use Rattle.std.proofs.Common.{◌≡◌, ℕ, ℤ, List, [], ◌∷◌, Option, 
 use Rattle.std.specs.Fmt.{◌++?◌, comma_space, debug_items}
 use Rattle.std.specs.Option.{IfSome}
 use Rattle.rsb_integer.specs.Runs.{Interval}
-use Rattle.rsb_text.specs.Numbers.{AreNumbers}
+use Rattle.rsb_range_text.specs.Numbers.{AreNumbers}
 use Rattle.range_set_blaze.specs.Written.{ends_text, run_text, runs_text}
 
 module _ {T : Type 0} (rank : T → ℕ) (n : ℕ) (value_at : ℕ → T) (number : T → ℤ)

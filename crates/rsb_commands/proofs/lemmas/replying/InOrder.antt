@@ -2,7 +2,7 @@
 use Rattle.std.proofs.Common.{◌≡◌, ◌∙◌, ℕ, suc, ◌+◌, ◌<◌, List, [], ◌∷◌, ◌++◌, get_or, length, take, refl, sym, ap, subst, arith}
 use Rattle.std.proofs.Math.Seq.{take-suc}
 use Rattle.rsb_integer.specs.Runs.{Interval}
-use Rattle.rsb_parser.specs.declared.command.Command.{Command}
+use Rattle.rsb_command_parser.specs.declared.command.Command.{Command}
 use Rattle.rsb_commands.specs.Interpreter.{Content, Sets, AreReplies, AreRepliesFrom, IsReply, no_members, sets_after, sets_of}
 
 -- The place after a place is one more.

@@ -8,7 +8,7 @@ use Rattle.std.proofs.lemmas.List.{get_or-set_same, get_or-set_other}
 use Rattle.rsb_integer.specs.Runs.{Interval, members, covers, from_to}
 use Rattle.rsb_integer.specs.Selection.{Selection, union, LacksSome}
 use Rattle.range_set_blaze.specs.Set.{Adds, ranks_between}
-use Rattle.rsb_parser.specs.declared.command.Command.TheVariants.{Add}
+use Rattle.rsb_command_parser.specs.declared.command.Command.TheVariants.{Add}
 use Rattle.rsb_commands.specs.Interpreter.{IsReply, flag, no_members, put, sets_after, sets_of}
 
 -- ---- sets without runs

@@ -7,8 +7,8 @@ use Rattle.rsb_integer.specs.Selection.{Selection, difference, intersection, sym
 use Rattle.rsb_integer.proofs.lemmas.Range.{same_ranges}
 use Rattle.rsb_integer.proofs.lemmas.Runs.{runs-canonical, runs-same}
 use Rattle.range_set_blaze.proofs.lemmas.order.OneOrder.{order-unique}
-use Rattle.rsb_parser.specs.declared.command.Command.{Command}
-use Rattle.rsb_parser.specs.declared.command.Command.TheVariants.{Add, Del, Has, Gap, Count, Show, Union, Intersection, Difference, SymmetricDifference, Complement, Most, Compare}
+use Rattle.rsb_command_parser.specs.declared.command.Command.{Command}
+use Rattle.rsb_command_parser.specs.declared.command.Command.TheVariants.{Add, Del, Has, Gap, Count, Show, Union, Intersection, Difference, SymmetricDifference, Complement, Most, Compare}
 use Rattle.rsb_commands.specs.Interpreter.{Content, flag, number, order, piece, ranges, runs, Sets, most_of, sets_after, IsReply, AreRepliesFrom}
 use Rattle.rsb_commands.proofs.lemmas.replying.OneRun.{one_many, one_piece}
 

@@ -14,8 +14,8 @@ use Rattle.rsb_streams.specs.StreamLaws.{runs-exist}
 use Rattle.range_set_blaze.specs.Order.{order as order_of}
 use Rattle.range_set_blaze.specs.OrderLaws.{order-holds}
 use Rattle.range_set_blaze.specs.Set.{IsRunAround}
-use Rattle.rsb_parser.specs.declared.command.Command.{Command}
-use Rattle.rsb_parser.specs.declared.command.Command.TheVariants.{Add, Del, Has, Gap, Count, Show, Union, Intersection, Difference, SymmetricDifference, Complement, Most, Compare}
+use Rattle.rsb_command_parser.specs.declared.command.Command.{Command}
+use Rattle.rsb_command_parser.specs.declared.command.Command.TheVariants.{Add, Del, Has, Gap, Count, Show, Union, Intersection, Difference, SymmetricDifference, Complement, Most, Compare}
 use Rattle.rsb_commands.specs.Interpreter.{Content, flag, number, order, piece, ranges, runs, Sets, most_of, sets_after, whichever, AreRepliesFrom, IsPieceReply, IsReply, IsRunsReply, NamesValues}
 
 -- ---- whether a set lacks some ranks

@@ -8,9 +8,9 @@ use Rattle.std.specs.Int.RustNames.{FitsSigned}
 use Rattle.std.specs.List.{AllZip}
 use Rattle.std.specs.Prelude.{All, ⊤}
 use Rattle.rsb_integer.specs.Rank.{signed_rank}
-use Rattle.rsb_parser.specs.declared.command.Command.{Command}
-use Rattle.rsb_parser.specs.declared.command.Command.TheVariants.{Add, Del, Has, Gap, Count, Show, Union, Intersection, Difference, SymmetricDifference, Complement, Most, Compare}
-use Rattle.rsb_parser.specs.Spelling.{Argument, slot, number, IsArgument, Spells, line_of}
+use Rattle.rsb_command_parser.specs.declared.command.Command.{Command}
+use Rattle.rsb_command_parser.specs.declared.command.Command.TheVariants.{Add, Del, Has, Gap, Count, Show, Union, Intersection, Difference, SymmetricDifference, Complement, Most, Compare}
+use Rattle.rsb_command_parser.specs.Spelling.{Argument, slot, number, IsArgument, Spells, line_of}
 use Rattle.rsb_commands.specs.Interpreter.{NamesValues}
 
 -- The rank of a number that fits 32 bits is below 2 ^ 32.

@@ -7,7 +7,7 @@ use Rattle.std.proofs.lemmas.List.Concat.{flat_map-cons}
 use Rattle.std.specs.Io.KnownBytes.{Appends}
 use Rattle.std.specs.Prelude.{flat_map}
 use Rattle.std.specs.Result.{IsErrAnd}
-use Rattle.rsb_parser.specs.declared.fault.Fault.{Fault}
+use Rattle.rsb_command_parser.specs.declared.fault.Fault.{Fault}
 use Rattle.rsb_commands.specs.declared.page.Page.{Page}
 use Rattle.rsb_commands.specs.Page.{Laid, Lays, sent_bytes, waiting_text}
 use Rattle.rsb_commands.specs.Transfer.{AppendsShortOf}

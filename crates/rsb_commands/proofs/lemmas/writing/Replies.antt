@@ -13,8 +13,8 @@ use Rattle.rsb_integer.specs.Rank.{signed_rank}
 use Rattle.rsb_integer.specs.RankLaws.{signed-in_order}
 use Rattle.rsb_integer.specs.Runs.{Interval}
 use Rattle.rsb_integer.proofs.lemmas.Range.{one_place}
-use Rattle.rsb_parser.specs.declared.command.Command.{Command}
-use Rattle.rsb_parser.specs.declared.fault.Fault.{Fault}
+use Rattle.rsb_command_parser.specs.declared.command.Command.{Command}
+use Rattle.rsb_command_parser.specs.declared.fault.Fault.{Fault}
 use Rattle.rsb_commands.specs.declared.page.Page.{Page}
 use Rattle.rsb_commands.specs.Answer.{AreNumberReplies, Replies, StopsForMemory, WrotePartOfReplies}
 use Rattle.rsb_commands.specs.Interpreter.{Content, IsReply, MayTakeMemory, no_members, sets_after, sets_of}

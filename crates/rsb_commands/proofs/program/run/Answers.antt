@@ -1,5 +1,5 @@
 use Rattle.std.proofs.Common.{◌<◌, length, subst}
-use Rattle.rsb_parser.proofs.lemmas.reading.Consumed.{some_spelled}
+use Rattle.rsb_command_parser.proofs.lemmas.reading.Consumed.{some_spelled}
 use Rattle.rsb_commands.proofs.lemmas.writing.Replies.{cut_before_all}
 use Rattle.rsb_commands.proofs.program.run.Goals as goal
 

@@ -1,15 +1,12 @@
 -- What a caller of operations on streams needs: their results composed, and the members of a list
 -- that an operation gives.
-use Rattle.std.proofs.Common.{◌≡◌, ◌⊎◌, ℕ, ◌+◌, ◌<◌, Bool, true, false, ◌&&◌, ◌||◌, sym, ◌∙◌, List, not, refl, ap, [], ◌∷◌, ◌++◌, inl, inr, length, map, subst, arith}
+use Rattle.std.proofs.Common.{◌≡◌, ◌⊎◌, ℕ, ◌+◌, ◌<◌, Bool, true, false, ◌&&◌, ◌||◌, sym, ◌∙◌, List, not, refl, ap, ◌++◌, inl, inr, length, arith}
 use Rattle.std.proofs.lemmas.Bool.{cases_lt}
 use Rattle.std.proofs.lemmas.List.{length-append}
 use Rattle.std.specs.Prelude.{Option, Some, None, IfSome}
-use Rattle.std.specs.Iterator.{Yields}
 use Rattle.std.specs.declared.ops.RangeInclusive.{RangeInclusive}
 use Rattle.rsb_integer.specs.Rank.{interval_of}
 use Rattle.rsb_integer.specs.declared.integer.Integer.{Ghosts as Elements}
-use Rattle.rsb_streams.specs.FillGapsIter.{FillSteps, fill_may_give}
-use Rattle.rsb_streams.specs.declared.fill_gaps_iter.FillGapsIter.{FillGapsIter}
 use Rattle.std.proofs.Math.Bool.{not-not}
 use Rattle.rsb_integer.specs.Runs.{Interval, members}
 use Rattle.rsb_integer.specs.Selection.{Selection, Agree, complement, difference, intersection, union}
@@ -259,19 +256,6 @@ module _ {T N L R O : Type 0} (integer : Elements T N) (left : Stream L T N) (ri
               let no_more = all.1.1 (omega (arith, bound, right_none)) in
               fails (omega (arith, no_more))
         ]))
-
--- ---- runs and gaps
-
--- What calls returned until `None` is a list that might come.
-pub filled-drawn : {T N I : Type 0} (integer : Elements T N) (stream : Stream I T N)
-    (items : List (RangeInclusive T × Bool)) (s t u : FillGapsIter T I)
-    → Yields (FillSteps integer stream) s items t → FillSteps integer stream t None u
-    → fill_may_give integer stream s (map (λ pair. (interval_of integer.rank pair.0, pair.1)) items)
-filled-drawn integer stream [] s t u all end =
-    subst (λ each. fill_may_give integer stream each []) (sym all) end.answers
-filled-drawn integer stream (item ∷ items) s t u all end =
-    all.1.answers (map (λ pair. (interval_of integer.rank pair.0, pair.1)) items)
-    (filled-drawn integer stream items all.0 t u all.2 end)
 
 -- ---- how far a union looks ahead
 

@@ -2,7 +2,7 @@ use Rattle.std.proofs.Common.{arith}
 use Rattle.std.proofs.lemmas.Bool.Decides.{nat_tests}
 use Rattle.rsb_integer.proofs.lemmas.AnyOf.{any_of-one_more}
 use Rattle.range_set_blaze.specs.Algebra.{AddsValues}
-use Rattle.rsb_runs.specs.Set.{only}
+use Rattle.rsb_storage.specs.Set.{only}
 use Rattle.rsb_many.proofs.lemmas.inputs.HandedIn.{ended-run}
 use Rattle.range_set_blaze.proofs.set.RangeSetBlaze.extend_values.Goals as goal
 

@@ -1,4 +1,4 @@
-use Rattle.rsb_runs.specs.Storage.{run_of}
+use Rattle.rsb_storage.specs.Storage.{run_of}
 use Rattle.range_set_blaze.proofs.lemmas.fitting.FirstFits.{fit-from, none-anywhere, none-lower}
 use Rattle.range_set_blaze.proofs.set.RangeSetBlaze.first_gap_from.Goals as goal
 

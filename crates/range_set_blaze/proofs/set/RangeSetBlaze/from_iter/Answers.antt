@@ -4,7 +4,7 @@ use Rattle.rsb_integer.specs.Rank.{intervals_of}
 use Rattle.rsb_integer.specs.Runs.{members}
 use Rattle.rsb_streams.proofs.lemmas.sorting.Collected.{gathered}
 use Rattle.rsb_many.proofs.lemmas.inputs.HandedIn.{gave-run}
-use Rattle.rsb_runs.specs.Set.{IsSetOf}
+use Rattle.rsb_storage.specs.Set.{IsSetOf}
 use Rattle.range_set_blaze.proofs.set.RangeSetBlaze.from_iter.Goals as goal
 
 -- The kept ranges are non-empty.

@@ -1,6 +1,6 @@
 use Rattle.std.proofs.lemmas.Result.{IfOk-weaker}
 use Rattle.range_set_blaze.specs.Algebra.{ranks_of}
-use Rattle.rsb_runs.specs.Set.{IsSetOf}
+use Rattle.rsb_storage.specs.Set.{IsSetOf}
 use Rattle.rsb_many.proofs.lemmas.inputs.HandedIn.{gave-run}
 use Rattle.range_set_blaze.proofs.lemmas.gathering.SingleValues.{singles-gave}
 use Rattle.range_set_blaze.proofs.set.RangeSetBlaze.from_iter_values.Goals as goal

@@ -8,7 +8,7 @@ use Rattle.rsb_streams.specs.Stream.{HasSortedStarts}
 use Rattle.rsb_streams.proofs.lemmas.sorting.Collected.{collects-end, collects-sorted, runs-sorted, Collects}
 use Rattle.rsb_streams.proofs.lemmas.sorting.Sorted.{IsInOrder}
 use Rattle.rsb_streams.proofs.lemmas.sources.Vectors.{vec-calls, vec-sorted}
-use Rattle.rsb_runs.specs.Storage.{IsKept}
+use Rattle.rsb_storage.specs.Storage.{IsKept}
 use Rattle.range_set_blaze.proofs.lemmas.gathering.SetOperations.{set-of_runs}
 use Rattle.range_set_blaze.proofs.set.RangeSetBlaze.from_list.Given.{Over}
 use Rattle.range_set_blaze.proofs.set.RangeSetBlaze.from_list.Goals as goal

@@ -2,8 +2,8 @@ use Rattle.std.proofs.Common.{refl, subst, sym}
 use Rattle.std.proofs.lemmas.Bool.{true≢false}
 use Rattle.rsb_integer.specs.Runs.{covers, members}
 use Rattle.rsb_integer.proofs.lemmas.List.{not_both}
-use Rattle.rsb_runs.specs.Set.{Adds}
-use Rattle.rsb_runs.specs.Storage.{run_of}
+use Rattle.rsb_storage.specs.Set.{Adds}
+use Rattle.rsb_storage.specs.Storage.{run_of}
 use Rattle.range_set_blaze.proofs.lemmas.insertion.Bounds.{adds-all}
 use Rattle.range_set_blaze.proofs.lemmas.runs.Counts.{run_count-added}
 use Rattle.range_set_blaze.proofs.set.RangeSetBlaze.insert_run.Goals as goal

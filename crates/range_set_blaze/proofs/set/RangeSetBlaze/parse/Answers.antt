@@ -2,10 +2,10 @@ use Rattle.std.proofs.Common.{◌≡◌, ℕ, List, Err, Ok, sym, subst, rules}
 use Rattle.std.specs.declared.ops.RangeInclusive.{RangeInclusive}
 use Rattle.rsb_integer.specs.Rank.{intervals_of}
 use Rattle.rsb_integer.specs.Runs.{members}
-use Rattle.rsb_runs.specs.Set.{IsSetOf}
-use Rattle.rsb_text.specs.Text.{IsFirstUnexpected, Spells}
-use Rattle.rsb_text.specs.declared.parse_error.ParseError.TheVariants.{Unexpected}
-use Rattle.rsb_text.proofs.lemmas.Read.{unexpected-none}
+use Rattle.rsb_storage.specs.Set.{IsSetOf}
+use Rattle.rsb_range_text.specs.Text.{IsFirstUnexpected, Spells}
+use Rattle.rsb_range_text.specs.declared.parse_error.ParseError.TheVariants.{Unexpected}
+use Rattle.rsb_range_text.proofs.lemmas.Read.{unexpected-none}
 use Rattle.range_set_blaze.proofs.lemmas.texts.Reread.{ranges_of_runs, runs-spelled, set-reread}
 use Rattle.range_set_blaze.proofs.set.RangeSetBlaze.parse.Goals as goal
 

@@ -1,8 +1,8 @@
 use Rattle.std.proofs.Common.{arith, sym}
-use Rattle.rsb_runs.specs.Storage.{run_of}
-use Rattle.rsb_runs.proofs.lemmas.runs.Storage.{lt-fails}
-use Rattle.rsb_runs.proofs.lemmas.look_up.Gaps.{contained-around, gap-first, gap-found}
-use Rattle.rsb_runs.proofs.lemmas.runs.Apart.{contained-maximal, contained-members, last-gap, none-gap}
+use Rattle.rsb_storage.specs.Storage.{run_of}
+use Rattle.rsb_storage.proofs.lemmas.runs.Storage.{lt-fails}
+use Rattle.rsb_storage.proofs.lemmas.look_up.Gaps.{contained-around, gap-first, gap-found}
+use Rattle.rsb_storage.proofs.lemmas.runs.Apart.{contained-maximal, contained-members, last-gap, none-gap}
 use Rattle.range_set_blaze.proofs.set.RangeSetBlaze.range_or_gap_at.Goals as goal
 use Rattle.range_set_blaze.proofs.set.RangeSetBlaze.range_or_gap_at.Goals.{in-None, in-Some+else-not-ends_before}
 

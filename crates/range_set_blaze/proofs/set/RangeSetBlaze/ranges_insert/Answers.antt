@@ -2,8 +2,8 @@ use Rattle.std.proofs.Common.{◌↔◌, IfOk, IsTrue, OnOk, arith, subst, sym}
 use Rattle.std.proofs.lemmas.Bool.Decides.{nat_tests}
 use Rattle.rsb_integer.specs.Runs.{members}
 use Rattle.rsb_integer.specs.Selection.{LacksSome}
-use Rattle.rsb_runs.specs.Set.{Adds, IsReached}
-use Rattle.rsb_runs.specs.Storage.{run_of}
+use Rattle.rsb_storage.specs.Set.{Adds, IsReached}
+use Rattle.rsb_storage.specs.Storage.{run_of}
 use Rattle.range_set_blaze.proofs.lemmas.removal.Between.{covers-between}
 use Rattle.range_set_blaze.proofs.set.RangeSetBlaze.ranges_insert.Goals as goal
 

@@ -1,9 +1,9 @@
 use Rattle.std.proofs.Common.{◌↔◌, IfOk, IsTrue, OnOk, subst, sym}
 use Rattle.rsb_integer.specs.Runs.{members}
 use Rattle.rsb_integer.specs.Selection.{intersection, IsEmpty}
-use Rattle.rsb_runs.specs.Storage.{run_of}
+use Rattle.rsb_storage.specs.Storage.{run_of}
 use Rattle.range_set_blaze.specs.RemoveRanges.{HasSome, Lacks}
-use Rattle.rsb_runs.specs.Set.{Removes}
+use Rattle.rsb_storage.specs.Set.{Removes}
 use Rattle.range_set_blaze.proofs.lemmas.removal.Between.{covers-between}
 use Rattle.range_set_blaze.proofs.set.RangeSetBlaze.ranges_remove.Goals as goal
 

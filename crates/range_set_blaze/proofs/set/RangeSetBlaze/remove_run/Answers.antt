@@ -1,8 +1,8 @@
 use Rattle.std.proofs.Common.{refl, subst, sym}
 use Rattle.std.proofs.lemmas.Bool.{true≢false}
 use Rattle.rsb_integer.specs.Runs.{covers}
-use Rattle.rsb_runs.specs.Set.{Removes}
-use Rattle.rsb_runs.specs.Storage.{run_of}
+use Rattle.rsb_storage.specs.Set.{Removes}
+use Rattle.rsb_storage.specs.Storage.{run_of}
 use Rattle.range_set_blaze.proofs.lemmas.removal.Between.{removes-nothing}
 use Rattle.range_set_blaze.proofs.lemmas.removal.Meeting.{some-common}
 use Rattle.range_set_blaze.proofs.lemmas.runs.Counts.{run_count-without}

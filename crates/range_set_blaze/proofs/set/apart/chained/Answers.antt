@@ -1,5 +1,5 @@
 use Rattle.std.proofs.Common.{arith, subst, sym}
-use Rattle.rsb_runs.specs.Storage.{IsKept}
+use Rattle.rsb_storage.specs.Storage.{IsKept}
 use Rattle.range_set_blaze.proofs.lemmas.runs.Appended.{appended-fits, appended-kept}
 use Rattle.range_set_blaze.proofs.set.apart.chained.Goals as goal
 

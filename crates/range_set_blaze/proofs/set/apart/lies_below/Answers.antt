@@ -1,8 +1,8 @@
 use Rattle.std.proofs.Common.{◌≡◌, ◌+◌, ap, arith, false, rules}
 use Rattle.std.specs.Prelude.{IsNone}
-use Rattle.rsb_runs.specs.Storage.{run_of}
+use Rattle.rsb_storage.specs.Storage.{run_of}
 use Rattle.range_set_blaze.proofs.lemmas.runs.Appended.{appended-canonical}
-use Rattle.rsb_runs.proofs.lemmas.runs.Storage.{le-fails}
+use Rattle.rsb_storage.proofs.lemmas.runs.Storage.{le-fails}
 use Rattle.range_set_blaze.proofs.set.apart.lies_below.Goals as goal
 
 -- If the lower set is empty, the list is that of the other.

@@ -1,8 +1,8 @@
 use Rattle.std.proofs.Common.{◌≡◌, ◌+◌, ◌<◌, inl, inr, arith, refl}
 use Rattle.std.proofs.lemmas.Bool.{cases_lt}
-use Rattle.rsb_runs.specs.Storage.{run_of, runs_of}
+use Rattle.rsb_storage.specs.Storage.{run_of, runs_of}
 use Rattle.range_set_blaze.proofs.lemmas.fitting.FirstFits.{gaps-done, gaps-fit, gaps-next, gaps-none, last-fit, last-short}
-use Rattle.rsb_runs.proofs.lemmas.runs.Storage.{le-fails}
+use Rattle.rsb_storage.proofs.lemmas.runs.Storage.{le-fails}
 use Rattle.range_set_blaze.proofs.set.first_fit.first_between.Goals as goal
 
 -- If the gap before the next run is long enough, it is the first such gap.

@@ -1,6 +1,6 @@
 -- The gaps that were passed are too short.
 use Rattle.std.proofs.Common.{length}
-use Rattle.rsb_runs.specs.Storage.{runs_of}
+use Rattle.rsb_storage.specs.Storage.{runs_of}
 use Rattle.range_set_blaze.proofs.lemmas.fitting.FirstFits.{free_from, AreGapsPassed}
 use Rattle.range_set_blaze.proofs.set.first_fit.first_between.Given as goal
 

@@ -1,8 +1,8 @@
 use Rattle.std.proofs.Common.{subst}
 use Rattle.std.specs.Option.{MatchOption}
 use Rattle.rsb_integer.specs.Selection.{Selection}
-use Rattle.rsb_runs.specs.FirstFit.{AllShorter, IsFirstFit}
-use Rattle.rsb_runs.specs.Storage.{run_of}
+use Rattle.rsb_storage.specs.FirstFit.{AllShorter, IsFirstFit}
+use Rattle.rsb_storage.specs.Storage.{run_of}
 use Rattle.range_set_blaze.proofs.lemmas.fitting.FirstFits.{none-free, past-free, past-later, past-within}
 use Rattle.range_set_blaze.proofs.set.first_fit.gap_from.Goals as goal
 

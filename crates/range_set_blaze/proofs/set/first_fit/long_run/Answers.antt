@@ -1,6 +1,6 @@
-use Rattle.rsb_runs.specs.Storage.{run_of, runs_of}
+use Rattle.rsb_storage.specs.Storage.{run_of, runs_of}
 use Rattle.range_set_blaze.proofs.lemmas.fitting.FirstFits.{passed-all, passed-fit, passed-next}
-use Rattle.rsb_runs.proofs.lemmas.runs.Storage.{le-fails}
+use Rattle.rsb_storage.proofs.lemmas.runs.Storage.{le-fails}
 use Rattle.range_set_blaze.proofs.set.first_fit.long_run.Goals as goal
 
 -- If the next run is long enough, it is the first such run.

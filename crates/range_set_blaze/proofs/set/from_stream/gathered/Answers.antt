@@ -3,9 +3,9 @@ use Rattle.std.proofs.lemmas.List.Sums.{sum_by-append}
 use Rattle.std.specs.Prelude.{Some, None}
 use Rattle.rsb_integer.specs.Rank.{interval_of}
 use Rattle.rsb_integer.specs.Runs.{Interval, length_of}
-use Rattle.rsb_runs.specs.Storage.{runs_of}
+use Rattle.rsb_storage.specs.Storage.{runs_of}
 use Rattle.range_set_blaze.proofs.lemmas.gathering.OneByOne.{runs_of-taken, taken-canonical, taken-ordered, taken-within}
-use Rattle.rsb_runs.proofs.lemmas.runs.Storage.{sum_by-canonical}
+use Rattle.rsb_storage.proofs.lemmas.runs.Storage.{sum_by-canonical}
 use Rattle.range_set_blaze.proofs.set.from_stream.gathered.Goals as goal
 
 -- The ranges taken so far, this one and those to come are canonical, so this one is non-empty.

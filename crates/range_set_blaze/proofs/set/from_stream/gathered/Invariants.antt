@@ -4,7 +4,7 @@ use Rattle.std.proofs.Common.{◌≡◌, List, ◌++◌}
 use Rattle.std.specs.Iterator.{IsFinite, size}
 use Rattle.std.specs.List.{sum_by}
 use Rattle.rsb_integer.specs.Runs.{Interval, length_of}
-use Rattle.rsb_runs.specs.Storage.{runs_of}
+use Rattle.rsb_storage.specs.Storage.{runs_of}
 use Rattle.range_set_blaze.proofs.set.from_stream.gathered.Given as goal
 
 abbrev pub invariant-loop-range : goal.invariant-loop-range

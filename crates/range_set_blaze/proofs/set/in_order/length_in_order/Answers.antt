@@ -2,8 +2,8 @@ use Rattle.std.proofs.Common.{◌∙◌, ◌∷◌, ap, refl, subst, None, rules
 use Rattle.std.proofs.lemmas.List.{nil_from_length}
 use Rattle.std.specs.Slice.Iter.{iter_rest}
 use Rattle.rsb_integer.specs.Rank.{intervals_of}
-use Rattle.rsb_runs.specs.Storage.{run_of}
-use Rattle.rsb_runs.proofs.lemmas.gathering.InOrder.{begun-all, begun-first, begun-fits, begun-next, IsBegun}
+use Rattle.rsb_storage.specs.Storage.{run_of}
+use Rattle.rsb_storage.proofs.lemmas.gathering.InOrder.{begun-all, begun-first, begun-fits, begun-next, IsBegun}
 use Rattle.range_set_blaze.proofs.set.in_order.length_in_order.Goals as goal
 
 pub loop-range-init : goal.loop-range-init

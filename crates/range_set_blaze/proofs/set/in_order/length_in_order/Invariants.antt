@@ -2,7 +2,7 @@
 use Rattle.std.proofs.Common.{length}
 use Rattle.std.specs.Slice.Iter.{iter_rest}
 use Rattle.rsb_integer.specs.Rank.{intervals_of}
-use Rattle.rsb_runs.proofs.lemmas.gathering.InOrder.{IsBegun}
+use Rattle.rsb_storage.proofs.lemmas.gathering.InOrder.{IsBegun}
 use Rattle.range_set_blaze.proofs.set.in_order.length_in_order.Given as goal
 
 abbrev pub invariant-loop-range : goal.invariant-loop-range

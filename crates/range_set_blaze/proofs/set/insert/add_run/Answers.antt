@@ -1,6 +1,6 @@
 use Rattle.std.proofs.Common.{refl}
 use Rattle.range_set_blaze.proofs.lemmas.insertion.Joining.{hull-adds}
-use Rattle.rsb_runs.specs.Storage.{run_of}
+use Rattle.rsb_storage.specs.Storage.{run_of}
 use Rattle.range_set_blaze.proofs.set.insert.add_run.Goals as goal
 
 -- If some run has all the values, nothing is put.

@@ -1,6 +1,6 @@
 use Rattle.std.proofs.Common.{arith}
-use Rattle.rsb_runs.proofs.lemmas.runs.Found.{last-lower, last-value, none-lower, two-before, two-last, two-neither, two-none}
-use Rattle.rsb_runs.proofs.lemmas.runs.Storage.{lt-fails}
+use Rattle.rsb_storage.proofs.lemmas.runs.Found.{last-lower, last-value, none-lower, two-before, two-last, two-neither, two-none}
+use Rattle.rsb_storage.proofs.lemmas.runs.Storage.{lt-fails}
 use Rattle.range_set_blaze.proofs.set.insert.last_up_to.Goals as goal
 
 -- The last run starts within the type.

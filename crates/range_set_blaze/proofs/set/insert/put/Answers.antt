@@ -2,7 +2,7 @@ use Rattle.std.proofs.Common.{◌∙◌, List, ap, sym, arith, subst}
 use Rattle.rsb_integer.specs.Runs.{Interval, members}
 use Rattle.rsb_integer.proofs.lemmas.Count.{count-within}
 use Rattle.range_set_blaze.specs.Joining.{IsOver, KnowsInside}
-use Rattle.rsb_runs.specs.Storage.{run_of}
+use Rattle.rsb_storage.specs.Storage.{run_of}
 use Rattle.range_set_blaze.proofs.lemmas.insertion.Placing.{first-counted, first-some, first-there, first-within, joining-inside, joining-members, joining-over}
 use Rattle.range_set_blaze.proofs.set.insert.put.Goals as goal
 

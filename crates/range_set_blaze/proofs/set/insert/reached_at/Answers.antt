@@ -1,6 +1,6 @@
 use Rattle.std.proofs.Common.{arith}
-use Rattle.rsb_runs.proofs.lemmas.runs.Apart.{last-gap, none-gap}
-use Rattle.rsb_runs.proofs.lemmas.runs.Storage.{le-fails}
+use Rattle.rsb_storage.proofs.lemmas.runs.Apart.{last-gap, none-gap}
+use Rattle.rsb_storage.proofs.lemmas.runs.Storage.{le-fails}
 use Rattle.range_set_blaze.proofs.set.insert.reached_at.Goals as goal
 
 -- If no run starts at or before the value, it is unreached.

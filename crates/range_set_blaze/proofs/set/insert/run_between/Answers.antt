@@ -1,7 +1,7 @@
 use Rattle.std.proofs.Common.{◌∙◌, ap, arith, refl}
 use Rattle.std.proofs.lemmas.Bool.{true≢false}
-use Rattle.rsb_runs.specs.Set.{first_rank, past_rank}
-use Rattle.rsb_runs.proofs.lemmas.runs.Storage.{lt-fails}
+use Rattle.rsb_storage.specs.Set.{first_rank, past_rank}
+use Rattle.rsb_storage.proofs.lemmas.runs.Storage.{lt-fails}
 use Rattle.range_set_blaze.proofs.set.insert.run_between.Goals as goal
 
 -- The upper bound allows no values.

@@ -1,6 +1,6 @@
 use Rattle.std.proofs.Common.{◌+◌, ap, arith, refl}
 use Rattle.range_set_blaze.proofs.lemmas.insertion.Joining.{joined-hull, joined-joining, reached-has, reached-lacks}
-use Rattle.rsb_runs.proofs.lemmas.runs.Found.{two-values}
+use Rattle.rsb_storage.proofs.lemmas.runs.Found.{two-values}
 use Rattle.range_set_blaze.proofs.set.insert.touched.Goals as goal
 
 -- If the first run that the new one reaches ends at or past its end, all of its values are members.

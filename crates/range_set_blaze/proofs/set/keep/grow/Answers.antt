@@ -1,8 +1,8 @@
 use Rattle.std.proofs.Common.{◌||◌, ◌∙◌, ap, sym}
 use Rattle.std.proofs.Math.Bool.{or_assoc}
 use Rattle.rsb_integer.specs.Runs.{covers, members}
-use Rattle.rsb_runs.specs.Storage.{run_of}
-use Rattle.rsb_runs.specs.Set.{only}
+use Rattle.rsb_storage.specs.Storage.{run_of}
+use Rattle.rsb_storage.specs.Set.{only}
 use Rattle.range_set_blaze.proofs.lemmas.retaining.Grown.{covers-longer, covers-one}
 use Rattle.range_set_blaze.proofs.set.keep.grow.Goals as goal
 

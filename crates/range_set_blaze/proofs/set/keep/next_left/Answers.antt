@@ -1,6 +1,6 @@
 use Rattle.std.proofs.Common.{◌≡◌, ◌+◌, ◌++◌, ap, arith, suc, zero}
 use Rattle.rsb_integer.specs.Runs.{length_of}
-use Rattle.rsb_runs.specs.Storage.{run_of, runs_of}
+use Rattle.rsb_storage.specs.Storage.{run_of, runs_of}
 use Rattle.range_set_blaze.specs.Retain.{ascending_ranks, ranks_from}
 use Rattle.range_set_blaze.proofs.lemmas.gathering.AskedValues.{below-lower, left_runs-next, ranks_from-first}
 use Rattle.range_set_blaze.proofs.set.keep.next_left.Goals as goal

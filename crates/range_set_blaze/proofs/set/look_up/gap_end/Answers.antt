@@ -1,5 +1,5 @@
 use Rattle.std.proofs.Common.{arith}
-use Rattle.rsb_runs.proofs.lemmas.look_up.Gaps.{gap-last, gap-next, past-first}
+use Rattle.rsb_storage.proofs.lemmas.look_up.Gaps.{gap-last, gap-next, past-first}
 use Rattle.range_set_blaze.proofs.set.look_up.gap_end.Goals as goal
 
 -- The next run starts past the value.

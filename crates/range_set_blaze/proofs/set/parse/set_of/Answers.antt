@@ -1,7 +1,7 @@
 use Rattle.rsb_integer.specs.Rank.{intervals_of}
 use Rattle.rsb_integer.specs.Runs.{members}
 use Rattle.rsb_many.proofs.lemmas.inputs.GivenList.{given-list}
-use Rattle.rsb_runs.specs.Set.{IsSetOf}
+use Rattle.rsb_storage.specs.Set.{IsSetOf}
 use Rattle.range_set_blaze.proofs.set.parse.set_of.Goals as goal
 
 -- A list always ends.

@@ -1,6 +1,6 @@
 -- The members of the runs that were passed are counted.
 use Rattle.std.proofs.Common.{length}
-use Rattle.rsb_runs.specs.Storage.{runs_of}
+use Rattle.rsb_storage.specs.Storage.{runs_of}
 use Rattle.range_set_blaze.proofs.lemmas.ranking.Counted.{AreCounted}
 use Rattle.range_set_blaze.proofs.set.ranked.count_below.Given as goal
 

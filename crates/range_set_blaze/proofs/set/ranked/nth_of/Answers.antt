@@ -1,7 +1,7 @@
 use Rattle.std.proofs.Common.{◌<◌, arith, refl}
 use Rattle.std.proofs.lemmas.List.Elements.{All-head}
 use Rattle.rsb_integer.specs.Runs.{Interval}
-use Rattle.rsb_runs.specs.Storage.{run_of, runs_of}
+use Rattle.rsb_storage.specs.Storage.{run_of, runs_of}
 use Rattle.range_set_blaze.proofs.lemmas.ranking.Counted.{left-below, left-member, left-more, left-next, left-none}
 use Rattle.range_set_blaze.proofs.set.ranked.nth_of.Goals as goal
 

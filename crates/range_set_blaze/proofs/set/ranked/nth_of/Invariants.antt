@@ -1,6 +1,6 @@
 -- The runs that were passed lie below the n-th member.
 use Rattle.std.proofs.Common.{length}
-use Rattle.rsb_runs.specs.Storage.{runs_of}
+use Rattle.rsb_storage.specs.Storage.{runs_of}
 use Rattle.range_set_blaze.proofs.lemmas.ranking.Counted.{AreLeft}
 use Rattle.range_set_blaze.proofs.set.ranked.nth_of.Given as goal
 

@@ -1,9 +1,9 @@
 use Rattle.std.proofs.Common.{◌≡◌, OnOk, arith, sym, subst, refl}
-use Rattle.rsb_runs.specs.Storage.{run_of}
+use Rattle.rsb_storage.specs.Storage.{run_of}
 use Rattle.range_set_blaze.specs.Removal.{IsRemoved}
-use Rattle.rsb_runs.specs.Starts.{with_run}
+use Rattle.rsb_storage.specs.Starts.{with_run}
 use Rattle.range_set_blaze.proofs.lemmas.removal.Cuts.{cut-low, cut-none}
-use Rattle.rsb_runs.proofs.lemmas.runs.Storage.{lt-fails}
+use Rattle.rsb_storage.proofs.lemmas.runs.Storage.{lt-fails}
 use Rattle.range_set_blaze.proofs.set.remove.cut.Goals as goal
 
 -- An entry has the start of the run, so the insertion does not fail.

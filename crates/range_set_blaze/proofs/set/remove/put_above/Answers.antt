@@ -1,8 +1,8 @@
 use Rattle.std.proofs.Common.{refl, sym, subst}
-use Rattle.rsb_runs.specs.Storage.{run_of}
+use Rattle.rsb_storage.specs.Storage.{run_of}
 use Rattle.range_set_blaze.specs.Removal.{IsCutAbove}
 use Rattle.range_set_blaze.proofs.lemmas.removal.Cuts.{cut-above, cut-last}
-use Rattle.rsb_runs.proofs.lemmas.runs.Storage.{lt-fails}
+use Rattle.rsb_storage.proofs.lemmas.runs.Storage.{lt-fails}
 use Rattle.range_set_blaze.proofs.set.remove.put_above.Goals as goal
 
 -- The part of the run above the value is inserted.

@@ -4,8 +4,8 @@ use Rattle.rsb_integer.specs.Runs.{members}
 use Rattle.rsb_integer.proofs.lemmas.Count.{count-within}
 use Rattle.rsb_integer.proofs.lemmas.List.{not_both}
 use Rattle.range_set_blaze.proofs.lemmas.removal.Cuts.{removes-only}
-use Rattle.rsb_runs.proofs.lemmas.runs.Apart.{contained-members, last-gap, none-gap}
-use Rattle.rsb_runs.proofs.lemmas.runs.Storage.{lt-fails}
+use Rattle.rsb_storage.proofs.lemmas.runs.Apart.{contained-members, last-gap, none-gap}
+use Rattle.rsb_storage.proofs.lemmas.runs.Storage.{lt-fails}
 use Rattle.range_set_blaze.proofs.set.remove.take_value.Goals as goal
 
 -- If no run starts at or before the value, it is not a member.

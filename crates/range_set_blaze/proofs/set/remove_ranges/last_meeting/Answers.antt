@@ -1,6 +1,6 @@
-use Rattle.rsb_runs.specs.Storage.{run_of}
+use Rattle.rsb_storage.specs.Storage.{run_of}
 use Rattle.range_set_blaze.proofs.lemmas.removal.Meeting.{last-before, none-meets}
-use Rattle.rsb_runs.proofs.lemmas.runs.Storage.{lt-fails}
+use Rattle.rsb_storage.proofs.lemmas.runs.Storage.{lt-fails}
 use Rattle.range_set_blaze.proofs.set.remove_ranges.last_meeting.Goals as goal
 
 -- If no run starts at or before the end of the range, none meets it.

@@ -1,5 +1,5 @@
 use Rattle.std.proofs.Common.{◌<◌, OnOk, refl, subst}
-use Rattle.rsb_runs.specs.Storage.{run_of}
+use Rattle.rsb_storage.specs.Storage.{run_of}
 use Rattle.range_set_blaze.specs.RemoveRanges.{IsNarrowed}
 use Rattle.range_set_blaze.proofs.lemmas.removal.Meeting.{meeting-ends, outside-then}
 use Rattle.range_set_blaze.proofs.set.remove_ranges.take_others.Goals as goal

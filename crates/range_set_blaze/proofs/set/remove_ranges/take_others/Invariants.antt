@@ -1,5 +1,5 @@
 -- Only values of the range have been removed, and no run extends past the range.
-use Rattle.rsb_runs.specs.Storage.{run_of}
+use Rattle.rsb_storage.specs.Storage.{run_of}
 use Rattle.range_set_blaze.specs.RemoveRanges.{IsNarrowed}
 use Rattle.range_set_blaze.proofs.set.remove_ranges.take_others.Given as goal
 

@@ -1,5 +1,5 @@
 use Rattle.std.proofs.Common.{refl}
-use Rattle.rsb_runs.specs.Storage.{run_of}
+use Rattle.rsb_storage.specs.Storage.{run_of}
 use Rattle.range_set_blaze.proofs.lemmas.removal.Meeting.{meeting-some, meeting-within, outside-removes, outside-then, some-common}
 use Rattle.range_set_blaze.proofs.set.remove_ranges.take_range.Goals as goal
 

@@ -1,8 +1,8 @@
 use Rattle.std.proofs.Common.{arith}
 use Rattle.rsb_integer.proofs.lemmas.Canonical.{canonical-tail}
-use Rattle.rsb_runs.specs.Storage.{run_of, runs_of}
-use Rattle.rsb_runs.proofs.lemmas.runs.Storage.{sum_by-canonical}
-use Rattle.rsb_runs.proofs.lemmas.splitting.Parting.{counted-next}
+use Rattle.rsb_storage.specs.Storage.{run_of, runs_of}
+use Rattle.rsb_storage.proofs.lemmas.runs.Storage.{sum_by-canonical}
+use Rattle.rsb_storage.proofs.lemmas.splitting.Parting.{counted-next}
 use Rattle.range_set_blaze.proofs.set.split.length_of_runs.Goals as goal
 
 -- The runs that are left are canonical.

@@ -1,4 +1,4 @@
-use Rattle.rsb_runs.proofs.lemmas.splitting.Parting.{over-parting}
+use Rattle.rsb_storage.proofs.lemmas.splitting.Parting.{over-parting}
 use Rattle.range_set_blaze.proofs.set.split.part.Goals as goal
 
 -- No run starts below the key and contains it.

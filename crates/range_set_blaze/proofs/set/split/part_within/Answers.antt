@@ -1,8 +1,8 @@
 use Rattle.std.proofs.Common.{◌≡◌, ◌∙◌, Contains, List, OnOk, ap, refl, sym, subst}
 use Rattle.rsb_integer.specs.Runs.{Interval}
-use Rattle.rsb_runs.specs.Storage.{run_of}
-use Rattle.rsb_runs.specs.Starts.{runs_below, starting_from, with_run, without_start}
-use Rattle.rsb_runs.proofs.lemmas.splitting.Parting.{within-parting, within-there, within-without}
+use Rattle.rsb_storage.specs.Storage.{run_of}
+use Rattle.rsb_storage.specs.Starts.{runs_below, starting_from, with_run, without_start}
+use Rattle.rsb_storage.proofs.lemmas.splitting.Parting.{within-parting, within-there, within-without}
 use Rattle.range_set_blaze.proofs.set.split.part_within.Goals as goal
 
 -- One of those has the start of the run, so the insertion does not fail.

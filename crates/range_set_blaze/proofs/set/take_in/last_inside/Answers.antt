@@ -1,5 +1,5 @@
 use Rattle.std.proofs.Common.{arith}
-use Rattle.rsb_runs.proofs.lemmas.runs.Storage.{lt-fails}
+use Rattle.rsb_storage.proofs.lemmas.runs.Storage.{lt-fails}
 use Rattle.range_set_blaze.proofs.set.take_in.last_inside.Goals as goal
 
 -- If no run starts at or before the end, none starts inside.

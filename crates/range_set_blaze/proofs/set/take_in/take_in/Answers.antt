@@ -1,8 +1,8 @@
 use Rattle.std.proofs.Common.{arith, List, Option, MatchOption, sym, subst}
 use Rattle.rsb_integer.specs.Runs.{Interval}
 use Rattle.range_set_blaze.specs.Joining.{IsInside, KnowsInside, NoneInside}
-use Rattle.rsb_runs.specs.Storage.{run_of}
-use Rattle.rsb_runs.specs.declared.run.Run.{Run}
+use Rattle.rsb_storage.specs.Storage.{run_of}
+use Rattle.rsb_storage.specs.declared.run.Run.{Run}
 use Rattle.range_set_blaze.proofs.lemmas.insertion.TakingIn.{over-joined, without-inside}
 use Rattle.range_set_blaze.proofs.set.take_in.take_in.Goals as goal
 

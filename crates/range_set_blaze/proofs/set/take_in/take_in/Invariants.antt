@@ -3,7 +3,7 @@
 use Rattle.std.proofs.Common.{◌≡◌, ℕ, MatchOption}
 use Rattle.rsb_integer.specs.Runs.{members}
 use Rattle.range_set_blaze.specs.Joining.{IsInside, IsOver, NoneInside}
-use Rattle.rsb_runs.specs.Storage.{run_of}
+use Rattle.rsb_storage.specs.Storage.{run_of}
 use Rattle.range_set_blaze.proofs.set.take_in.take_in.Given as goal
 
 abbrev pub invariant-loop-next : goal.invariant-loop-next

@@ -1,7 +1,7 @@
 use Rattle.std.proofs.Common.{◌∙◌, List, ap, sym, arith, subst}
 use Rattle.rsb_integer.specs.Runs.{Interval, members}
 use Rattle.range_set_blaze.specs.Joining.{IsOver}
-use Rattle.rsb_runs.specs.Storage.{run_of}
+use Rattle.rsb_storage.specs.Storage.{run_of}
 use Rattle.range_set_blaze.proofs.lemmas.insertion.TakingIn.{inside-counted, inside-some, over-within, over-without, without-members}
 use Rattle.range_set_blaze.proofs.set.take_in.take_inside.Goals as goal
 

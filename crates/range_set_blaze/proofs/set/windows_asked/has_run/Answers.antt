@@ -1,4 +1,4 @@
-use Rattle.rsb_runs.specs.Storage.{run_of}
+use Rattle.rsb_storage.specs.Storage.{run_of}
 use Rattle.range_set_blaze.proofs.lemmas.removal.Meeting.{has-told, none-has}
 use Rattle.range_set_blaze.proofs.set.windows_asked.has_run.Goals as goal
 

@@ -3,9 +3,9 @@ use Rattle.std.specs.Option.{is_some}
 use Rattle.std.proofs.lemmas.Bool.{false≢true, true≢false}
 use Rattle.rsb_integer.specs.Runs.{Interval, covers, members, IsCanonicalIn}
 use Rattle.rsb_integer.specs.Selection.{intersection, IsEmpty}
-use Rattle.rsb_runs.specs.Storage.{run_of}
+use Rattle.rsb_storage.specs.Storage.{run_of}
 use Rattle.range_set_blaze.specs.RemoveRanges.{IsLastMeeting}
-use Rattle.rsb_runs.specs.declared.run.Run.{Run}
+use Rattle.rsb_storage.specs.declared.run.Run.{Run}
 use Rattle.range_set_blaze.proofs.lemmas.removal.Meeting.{meeting-some, some-common}
 use Rattle.range_set_blaze.proofs.set.windows_asked.lacks_run.Goals as goal
 

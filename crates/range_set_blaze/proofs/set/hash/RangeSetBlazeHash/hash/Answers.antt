@@ -4,7 +4,7 @@ use Rattle.rsb_integer.specs.Runs.{members, IsCanonicalIn}
 use Rattle.rsb_integer.proofs.lemmas.Count.{count-within}
 use Rattle.rsb_integer.proofs.lemmas.Range.{value_at-rank}
 use Rattle.rsb_integer.proofs.lemmas.Runs.{canonical-maximal}
-use Rattle.rsb_runs.specs.Storage.{runs_of}
+use Rattle.rsb_storage.specs.Storage.{runs_of}
 use Rattle.range_set_blaze.proofs.lemmas.order.FedRuns.{entries-fed, run_bounds-canonical}
 use Rattle.range_set_blaze.proofs.set.hash.RangeSetBlazeHash.hash.Goals as goal
 

@@ -4,7 +4,7 @@ use Rattle.std.proofs.lemmas.List.{map-append}
 use Rattle.rsb_integer.proofs.lemmas.AnyOf.{any_of-one_more}
 use Rattle.range_set_blaze.specs.Algebra.{AddsValues}
 use Rattle.range_set_blaze.specs.Lent.{pointed_to}
-use Rattle.rsb_runs.specs.Set.{only}
+use Rattle.rsb_storage.specs.Set.{only}
 use Rattle.rsb_many.proofs.lemmas.inputs.HandedIn.{ended-run}
 use denote.Ref.{Bor}
 use Rattle.range_set_blaze.proofs.set.lent.RangeSetBlazeExtendRef.extend.Goals as goal

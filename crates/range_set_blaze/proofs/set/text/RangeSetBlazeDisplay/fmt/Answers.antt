@@ -2,7 +2,7 @@ use Rattle.std.proofs.Common.{[], subst, sym}
 use Rattle.rsb_integer.specs.Runs.{members, IsCanonicalIn}
 use Rattle.rsb_integer.proofs.lemmas.Range.{value_at-rank}
 use Rattle.rsb_integer.proofs.lemmas.Runs.{canonical-maximal}
-use Rattle.rsb_runs.specs.Storage.{runs_of}
+use Rattle.rsb_storage.specs.Storage.{runs_of}
 use Rattle.range_set_blaze.proofs.lemmas.texts.Pieces.{items-runs}
 use Rattle.range_set_blaze.proofs.set.text.RangeSetBlazeDisplay.fmt.Goals as goal
 

@@ -1,6 +1,0 @@
-use Rattle.std.proofs.Common.{◌≡◌}
-use Rattle.address_lists.proofs.blocks.blocks_of.Given as goal
-
--- the list has the blocks so far
-abbrev pub invariant-loop-block : goal.invariant-loop-block
-invariant-loop-block g l = l.blocks.items ≡ l.yielded

@@ -1,4 +1,0 @@
-use Rattle.address_lists.proofs.line.family.U32Family.parse.Goals as goal
-
-pub returns-in-Err : goal.returns-in-Err
-returns-in-Err c = λ n h. c.in-Err.ensures h.0 h.1

@@ -1,5 +1,0 @@
-use Rattle.address_lists.proofs.lemmas.spelling.Blocks.{block_members}
-use Rattle.address_lists.proofs.line_laws.blocks_share_their_first_bits.Goals as goal
-
-pub returns : goal.returns
-returns c = block_members

@@ -1,6 +1,0 @@
-use Rattle.std.proofs.Common.{refl}
-use Rattle.address_lists.proofs.lemmas.listing.Reading.{gathered_none}
-use Rattle.address_lists.proofs.list.gathered.Gathered.new.Goals as goal
-
-pub returns : goal.returns
-returns g c = λ bytes. gathered_none bytes _ refl c.new.ensures.items c.new-2.ensures.items

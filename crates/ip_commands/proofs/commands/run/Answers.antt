@@ -1,0 +1,37 @@
+use Rattle.std.proofs.Common.{subst, sym}
+use Rattle.std.specs.Prelude.{IfErr}
+use Rattle.ip_commands.specs.Files.{IsFirstFault}
+use Rattle.ip_commands.specs.Request.{files_of}
+use Rattle.ip_commands.proofs.lemmas.Files.{passed-on}
+use Rattle.ip_commands.proofs.commands.run.Goals as goal
+
+-- A fault of an operation.
+pub returns-in_err-write_combination-in-Combine-clause-first :
+    goal.returns-in_err-write_combination-in-Combine-clause-first
+returns-in_err-write_combination-in-Combine-clause-first g c =
+    let bytes = g.I.Inputs.bytes c.args.inputs.now in
+    let fault = c.in_err-write_combination-in-Combine.field-0.0 in
+    passed-on c.from_residual-in_err-write_combination-in-Combine.result fault
+    (IsFirstFault bytes (files_of c.args.request))
+    c.from_residual-in_err-write_combination-in-Combine.ensures.1
+    (subst (λ each. IsFirstFault bytes (files_of each) fault) (sym c.in-Combine.is)
+    c.in_err-write_combination-in-Combine.ensures.first)
+
+-- A fault of `count`.
+pub returns-in_err-write_counts-in-Count-clause-first :
+    goal.returns-in_err-write_counts-in-Count-clause-first
+returns-in_err-write_counts-in-Count-clause-first g c =
+    let bytes = g.I.Inputs.bytes c.args.inputs.now in
+    let fault = c.in_err-write_counts-in-Count.field-0.0 in
+    passed-on c.from_residual-in_err-write_counts-in-Count.result fault
+    (IsFirstFault bytes (files_of c.args.request))
+    c.from_residual-in_err-write_counts-in-Count.ensures.1
+    (subst (λ each. IsFirstFault bytes (files_of each) fault) (sym c.in-Count.is)
+    c.in_err-write_counts-in-Count.ensures.first)
+
+-- A fault of `has`.
+pub returns-in-Has-clause-first : goal.returns-in-Has-clause-first
+returns-in-Has-clause-first g c =
+    let bytes = g.I.Inputs.bytes c.args.inputs.now in
+    subst (λ each. IfErr c.write_names.result (IsFirstFault bytes (files_of each)))
+    (sym c.in-Has.is) c.write_names.ensures.first

@@ -1,0 +1,49 @@
+-- What an operation selects from lists.
+use Rattle.std.proofs.Common.{◌≡◌, ℕ, ◌^◌, List, [], ◌∷◌, map, Option, ◌∙◌, refl, ap, subst}
+use Rattle.std.specs.Io.KnownBytes.{Appends}
+use Rattle.range_set_blaze.specs.Runs.{members}
+use Rattle.range_set_blaze.specs.Selection.{Agree}
+use Rattle.ip_sets.specs.Operation.{selected_by}
+use Rattle.ip_sets.specs.declared.list.AddressList.{AddressList}
+use Rattle.ip_commands.specs.Answer.{IsCombined, v4_of, v6_of}
+use Rattle.ip_commands.specs.Files.{AreFilesOf, selected}
+use Rattle.ip_commands.specs.Selection.{WritesSelected}
+use Rattle.ip_commands.specs.declared.request.Combination.{Combination}
+
+-- The IPv4 addresses of lists.
+pub same-v4 : {A : Type 0} (lists : List (AddressList A))
+    → map members (map (λ list. list.v4) lists) ≡ v4_of (map selected lists)
+same-v4 [] = refl
+same-v4 (list ∷ lists) = ap (λ others. members list.v4 ∷ others) (same-v4 lists)
+
+-- The IPv6 addresses of lists.
+pub same-v6 : {A : Type 0} (lists : List (AddressList A))
+    → map members (map (λ list. list.v6) lists) ≡ v6_of (map selected lists)
+same-v6 [] = refl
+same-v6 (list ∷ lists) = ap (λ others. members list.v6 ∷ others) (same-v6 lists)
+
+-- What was written is an answer.
+pub combined : {A : Type 0} (bytes : List ℕ → Option (List ℕ)) (combination : Combination)
+    (lists given : List (AddressList A)) (old new : Option (List ℕ)) → given ≡ lists
+    → AreFilesOf bytes (map (λ name. name.now) combination.files.now) (map selected lists)
+    → WritesSelected combination.form combination.families
+    (selected_by combination.operation (map members (map (λ list. list.v4) given)))
+    (selected_by combination.operation (map members (map (λ list. list.v6) given))) old new
+    → (text : List ℕ) × IsCombined bytes combination text × Appends old new text
+combined bytes combination lists given old new same files written = (
+  written.text,
+  record {
+    lists = map selected lists;
+    are = files;
+    v4 = written.v4_runs;
+    v6 = written.v6_runs;
+    v4_made = subst (λ sets. Agree (2 ^ 32) (members written.v4_runs)
+        (selected_by combination.operation sets))
+        (ap (λ each. map members (map (λ list. list.v4) each)) same ∙ same-v4 lists) written.v4_made;
+    v6_made = subst (λ sets. Agree (2 ^ 128) (members written.v6_runs)
+        (selected_by combination.operation sets))
+        (ap (λ each. map members (map (λ list. list.v6) each)) same ∙ same-v6 lists) written.v6_made;
+    whole = written.whole;
+  },
+  written.written,
+)

@@ -1,0 +1,449 @@
+-- Command lines, word by word.
+use Rattle.std.proofs.Common.{◌⊎◌, inl, inr, ◌≡◌, ◌≢◌, ◌∙◌, ℕ, ◌-◌, ◌<◌, ◌≤◌, suc, Bool, true, false, not, ◌||◌, cond, Bor, List, [], ◌∷◌, ◌++◌, length, map, take, drop, Option, Some, None, refl, sym, ap, subst, append_assoc, true≢false, arith, lit<}
+use Rattle.std.proofs.lemmas.Bool.Decides.{nat_tests}
+use Rattle.std.proofs.lemmas.List.{append-nil, length-map, take_all}
+use Rattle.std.proofs.lemmas.List.Elements.{filter-append}
+use Rattle.std.proofs.lemmas.List.Folds.{find-append}
+use Rattle.std.proofs.lemmas.Slice.Eq.{bytes_eq-Decides}
+use Rattle.std.specs.Bool.{Decides}
+use Rattle.std.specs.List.{filter, filter_map, find, last_or, list_any}
+use Rattle.std.specs.Option.{IsSomeAnd, option_or}
+use Rattle.std.specs.Prelude.{Err, IfErr, IfOk, MatchResult, Ok, Result, ◌==◌, bytes_eq, codes, if◌then◌else◌, slice_index_or, unwrap_or}
+use Rattle.ip_commands.specs.CommandLine.{AreArguments, IsMisuseOfOperands, IsRequestWith, after_mark, before_mark, families_asked, first_unknown, form_asked, is_dashed, is_known, is_mark, operands_of, options_of, question_asked, words_needed}
+use Rattle.ip_commands.specs.declared.arguments.Arguments.{Arguments}
+use Rattle.ip_commands.specs.declared.fault.Misuse.{Misuse}
+use Rattle.ip_commands.specs.declared.fault.Misuse.TheVariants.{TooFewWords}
+use Rattle.ip_commands.specs.declared.request.Families.{Families}
+use Rattle.ip_commands.specs.declared.request.Families.TheVariants.{Both}
+use Rattle.ip_commands.specs.declared.request.Form.{Form}
+use Rattle.ip_commands.specs.declared.request.Form.TheVariants.{Blocks}
+use Rattle.ip_commands.specs.declared.request.Request.{Request}
+
+-- ---- tests on words
+
+-- A test that decides what does not hold is false.
+decided-false : {P : Type 0} (test : Bool) → Decides test P → ¬ P → test ≡ false
+decided-false true decides differ = absurd (differ (decides.0 refl))
+decided-false false decides differ = refl
+
+-- Texts that differ are told apart.
+pub not-same : (xs ys : List ℕ) → xs ≢ ys → bytes_eq xs ys ≡ false
+not-same xs ys differ = decided-false (bytes_eq xs ys) (bytes_eq-Decides xs ys) differ
+
+-- A word that is no option is not `--`.
+pub no-mark : (word : List ℕ) → is_dashed word ≡ false → is_mark word ≡ false
+no-mark word plain =
+    not-same word (codes "--") (λ is. true≢false (subst (λ each. is_dashed each ≡ false) is plain))
+
+-- If neither of two tests holds, each of them fails.
+neither : (left right : Bool) → (left || right) ≡ false → (left ≡ false) × (right ≡ false)
+neither true right none = absurd (true≢false none)
+neither false right none = (refl, none)
+
+-- ---- words before and after `--`
+
+-- Words without `--` are before it, whatever follows them.
+pub before-unmarked : (words more : List (List ℕ)) → list_any is_mark words ≡ false
+    → before_mark (words ++ more) ≡ words ++ before_mark more
+before-unmarked [] more none = refl
+before-unmarked (word ∷ words) more none =
+    let each = neither (is_mark word) (list_any is_mark words) none in
+    let Same : Bool → Type 0 = λ mark. (if mark then [] else (word ∷ before_mark (words ++ more)))
+    ≡ word ∷ (words ++ before_mark more) in
+    let others : Same false = ap (λ rest. word ∷ rest) (before-unmarked words more each.1) in
+    subst Same (sym each.0) others
+
+pub after-unmarked : (words more : List (List ℕ)) → list_any is_mark words ≡ false
+    → after_mark (words ++ more) ≡ after_mark more
+after-unmarked [] more none = refl
+after-unmarked (word ∷ words) more none =
+    let each = neither (is_mark word) (list_any is_mark words) none in
+    let Same : Bool → Type 0 = λ mark. (if mark then words ++ more else after_mark (words ++ more))
+    ≡ after_mark more in
+    let others : Same false = after-unmarked words more each.1 in
+    subst Same (sym each.0) others
+
+before-by : (word : List ℕ) (words more : List (List ℕ)) (mark : Bool)
+    → (list_any is_mark words ≡ true → before_mark (words ++ more) ≡ before_mark words)
+    → (mark || list_any is_mark words) ≡ true
+    → (if mark then [] else (word ∷ before_mark (words ++ more)))
+    ≡ (if mark then [] else (word ∷ before_mark words))
+before-by word words more true others some = refl
+before-by word words more false others some = ap (λ rest. word ∷ rest) (others some)
+
+-- Nothing after `--` is before it.
+pub before-marked : (words more : List (List ℕ)) → list_any is_mark words ≡ true
+    → before_mark (words ++ more) ≡ before_mark words
+before-marked [] more some = absurd (true≢false (sym some))
+before-marked (word ∷ words) more some =
+    before-by word words more (is_mark word) (λ rest. before-marked words more rest) some
+
+after-by : (words more : List (List ℕ)) (mark : Bool)
+    → (list_any is_mark words ≡ true → after_mark (words ++ more) ≡ after_mark words ++ more)
+    → (mark || list_any is_mark words) ≡ true
+    → (if mark then words ++ more else after_mark (words ++ more))
+    ≡ (if mark then words else after_mark words) ++ more
+after-by words more true others some = refl
+after-by words more false others some = others some
+
+-- All that follows `--` is after it.
+pub after-marked : (words more : List (List ℕ)) → list_any is_mark words ≡ true
+    → after_mark (words ++ more) ≡ after_mark words ++ more
+after-marked [] more some = absurd (true≢false (sym some))
+after-marked (word ∷ words) more some =
+    after-by words more (is_mark word) (λ rest. after-marked words more rest) some
+
+-- ---- options and operands
+
+-- Whether a word is no option.
+abbrev is_plain : List ℕ → Bool
+is_plain word = not (is_dashed word)
+
+module _ (words more : List (List ℕ)) where
+  -- After words without `--`, options and operands follow those of the words.
+  pub options-unmarked : list_any is_mark words ≡ false
+      → options_of (words ++ more) ≡ options_of words ++ options_of more
+  options-unmarked none =
+      let all : before_mark words ≡ words =
+      ap before_mark (sym (append-nil words)) ∙ before-unmarked words [] none ∙ append-nil words in
+      ap (filter is_dashed) (before-unmarked words more none)
+      ∙ filter-append is_dashed words (before_mark more)
+      ∙ ap (λ each. filter is_dashed each ++ options_of more) (sym all)
+
+  pub operands-unmarked : list_any is_mark words ≡ false
+      → operands_of (words ++ more) ≡ operands_of words ++ operands_of more
+  operands-unmarked none =
+      let all : before_mark words ≡ words =
+      ap before_mark (sym (append-nil words)) ∙ before-unmarked words [] none ∙ append-nil words in
+      let rest : after_mark words ≡ [] =
+      ap after_mark (sym (append-nil words)) ∙ after-unmarked words [] none in
+      let own : operands_of words ≡ filter is_plain words =
+      ap (λ each. filter is_plain each ++ after_mark words) all
+      ∙ ap (λ each. filter is_plain words ++ each) rest ∙ append-nil (filter is_plain words) in
+      ap (λ each. filter is_plain each ++ after_mark (words ++ more))
+      (before-unmarked words more none)
+      ∙ ap (λ each. filter is_plain (words ++ before_mark more) ++ each)
+      (after-unmarked words more none)
+      ∙ ap (λ each. each ++ after_mark more) (filter-append is_plain words (before_mark more))
+      ∙ append_assoc (filter is_plain words) (filter is_plain (before_mark more)) (after_mark more)
+      ∙ ap (λ each. each ++ operands_of more) (sym own)
+
+  -- After `--`, each word is an operand.
+  pub options-marked : list_any is_mark words ≡ true → options_of (words ++ more) ≡ options_of words
+  options-marked some = ap (filter is_dashed) (before-marked words more some)
+
+  pub operands-marked : list_any is_mark words ≡ true
+      → operands_of (words ++ more) ≡ operands_of words ++ more
+  operands-marked some =
+      ap (λ each. filter is_plain each ++ after_mark (words ++ more))
+      (before-marked words more some)
+      ∙ ap (λ each. filter is_plain (before_mark words) ++ each) (after-marked words more some)
+      ∙ sym (append_assoc (filter is_plain (before_mark words)) (after_mark words) more)
+
+-- ---- one word
+
+module _ (word : List ℕ) where
+  -- A word that begins with no dash is an operand.
+  pub plain-option : is_dashed word ≡ false → options_of (word ∷ []) ≡ []
+  plain-option plain =
+      rw (no-mark word plain, plain) refl
+
+  pub plain-operand : is_dashed word ≡ false → operands_of (word ∷ []) ≡ word ∷ []
+  plain-operand plain = rw (no-mark word plain, plain) refl
+
+  -- `--` is neither.
+  pub mark-option : is_mark word ≡ true → options_of (word ∷ []) ≡ []
+  mark-option mark = rw mark refl
+
+  pub mark-operand : is_mark word ≡ true → operands_of (word ∷ []) ≡ []
+  mark-operand mark = rw mark refl
+
+  -- Another dashed word is an option, whatever follows it.
+  pub dashed-option : (more : List (List ℕ)) → is_mark word ≡ false → is_dashed word ≡ true
+      → options_of (word ∷ more) ≡ word ∷ options_of more
+  dashed-option more other dashed = rw (other, dashed) refl
+
+  pub dashed-operand : is_mark word ≡ false → is_dashed word ≡ true
+      → operands_of (word ∷ []) ≡ []
+  dashed-operand other dashed = rw (other, dashed) refl
+
+-- Whether some word is `--`, with one more word.
+pub one-more : (words : List (List ℕ)) (word : List ℕ)
+    → list_any is_mark (words ++ word ∷ []) ≡ (list_any is_mark words || is_mark word)
+one-more [] word =
+    elim (is_mark word) as (λ mark. (mark || false) ≡ mark) [ true ↦ refl | false ↦ refl ]
+one-more (first ∷ words) word =
+    ap (λ rest. is_mark first || rest) (one-more words word)
+    ∙ or-assoc (is_mark first) (list_any is_mark words) (is_mark word)
+  where
+    or-assoc : (a b c : Bool) → (a || (b || c)) ≡ ((a || b) || c)
+    or-assoc true b c = refl
+    or-assoc false b c = refl
+
+-- ---- what options ask for
+
+-- The last value, with one more option that may ask for one.
+pub last-more : {X : Type 0} (asked : List ℕ → Option X) (first : Option X)
+    (options : List (List ℕ)) (option : List ℕ)
+    → last_or first (filter_map asked (options ++ option ∷ []))
+    ≡ option_or (asked option) (last_or first (filter_map asked options))
+last-more {X = X} asked first [] option =
+    elim (asked option) as (λ value. last_or first (filter_map (λ _. value) (option ∷ []))
+    ≡ option_or value first) [ None ↦ refl | Some value ↦ refl ]
+last-more {X = X} asked first (other ∷ options) option =
+    by-other (asked other) (λ each. last-more asked each options option)
+  where
+    by-other : (value : Option X)
+        → ((each : Option X) → last_or each (filter_map asked (options ++ option ∷ []))
+        ≡ option_or (asked option) (last_or each (filter_map asked options)))
+        → last_or first (Rattle.std.specs.List.cons_option value
+        (filter_map asked (options ++ option ∷ [])))
+        ≡ option_or (asked option) (last_or first (Rattle.std.specs.List.cons_option value
+        (filter_map asked options)))
+    by-other None others = others first
+    by-other (Some value) others = others (Some value)
+
+-- A value or else a default, one after the other.
+pub either-default : {X : Type 0} (new old : Option X) (default : X)
+    → unwrap_or (option_or new old) default ≡ unwrap_or new (unwrap_or old default)
+either-default None old default = refl
+either-default (Some value) old default = refl
+
+-- ---- slices
+
+-- The first word of a slice, and the others.
+pub first-rest : {X Y : Type 0} (f : X → Y) (xs : List X) (default : X) → 1 ≤ length xs
+    → map f xs ≡ f (slice_index_or xs 0 default) ∷ map f (take (length xs - 1) (drop 1 xs))
+first-rest f [] default some = absurd (omega (arith, some))
+first-rest f (x ∷ xs) default some =
+    ap (λ rest. f x ∷ map f rest) (sym (take_all (suc (length xs) - 1) xs (omega arith)))
+
+-- A slice whose length is not 0.
+pub some-left : {X : Type 0} (xs : List X) → false ≡ (length xs == 0) → 1 ≤ length xs
+some-left xs test = grind (arith, nat_tests)
+
+-- The same of what its elements are mapped to.
+pub some-mapped : {X Y : Type 0} (f : X → Y) (xs : List X) → 1 ≤ length xs → 1 ≤ length (map f xs)
+some-mapped f xs some = rw (length-map xs f) some
+
+-- ---- commands
+
+-- What an operation on files asks for, or that there are too few files.
+pub of-operation : (form : Form) (families : Families) (operands : List (List ℕ)) (command : List ℕ)
+    (files : List (Bor (List ℕ))) (result : Result Request Misuse)
+    → operands ≡ command ∷ map (λ name. name.now) files → words_needed command ≡ Some 1
+    → IfOk result (IsRequestWith form families operands)
+    → IfErr result (λ misuse. (misuse ≡ TooFewWords) × (files ≡ []))
+    → MatchResult result (IsRequestWith form families operands) (IsMisuseOfOperands operands)
+of-operation form families operands command files (Ok request) parts needs asks few = asks
+of-operation form families operands command files (Err misuse) parts needs asks few =
+    let none : length (map (λ (name : Bor (List ℕ)). name.now) files) < 1 =
+    subst (λ (each : List (Bor (List ℕ))). length (map (λ name. name.now) each) < 1) (sym few.1)
+    (lit< tt) in
+    let whole : IsMisuseOfOperands operands TooFewWords = (
+      command,
+      map (λ name. name.now) files,
+      parts,
+      subst (λ needed. IsSomeAnd needed
+          (λ many. length (map (λ (name : Bor (List ℕ)). name.now) files) < many)) (sym needs) none,
+    ) in
+    subst (IsMisuseOfOperands operands) (sym few.0) whole
+
+-- A word that is none of the commands.
+pub no-command : (word : List ℕ) → word ≢ codes "union" → word ≢ codes "common"
+    → word ≢ codes "except" → word ≢ codes "odd" → word ≢ codes "at-least"
+    → word ≢ codes "complement" → word ≢ codes "count" → word ≢ codes "has"
+    → words_needed word ≡ None
+no-command word union common except odd at_least complement count has =
+    rw (
+      not-same word (codes "union") union,
+      not-same word (codes "common") common,
+      not-same word (codes "except") except,
+      not-same word (codes "odd") odd,
+      not-same word (codes "at-least") at_least,
+      not-same word (codes "complement") complement,
+      not-same word (codes "count") count,
+      not-same word (codes "has") has,
+    ) refl
+
+-- ---- arguments with one more word
+
+-- An option that is known is not the first unknown one.
+known-passes : (option : List ℕ) (known : Bool) → known ≡ true
+    → cond (not known) (Some option) None ≡ None
+known-passes option true is = refl
+known-passes option false is = absurd (true≢false (sym is))
+
+-- An option that is unknown is found.
+unknown-found : (option : List ℕ) (rest : Option (List ℕ)) (known : Bool) → known ≡ false
+    → cond (not known) (Some option) rest ≡ Some option
+unknown-found option rest true is = absurd (true≢false is)
+unknown-found option rest false is = refl
+
+-- A test that holds, or else one that fails.
+or-left : (left right : Bool) → left ≡ true → (left || right) ≡ true
+or-left true right is = refl
+or-left false right is = absurd (true≢false (sym is))
+
+or-right : (left right : Bool) → right ≡ true → (left || right) ≡ true
+or-right true right is = refl
+or-right false right is = is
+
+or-none : (left right : Bool) → right ≡ false → (left || right) ≡ left
+or-none true right is = refl
+or-none false right is = is
+
+module _ (words : List (List ℕ)) (word : List ℕ) where
+  -- The words with one more.
+  abbrev all_words : List (List ℕ)
+  all_words = words ++ word ∷ []
+
+  -- A word that is no option, or comes after `--`.
+  more-operand-options : (list_any is_mark words ≡ true) ⊎ (is_dashed word ≡ false)
+      → options_of all_words ≡ options_of words
+  more-operand-options which =
+      by-marked (list_any is_mark words) refl which
+    where
+      by-marked : (marked : Bool) → list_any is_mark words ≡ marked
+          → (list_any is_mark words ≡ true) ⊎ (is_dashed word ≡ false)
+          → options_of all_words ≡ options_of words
+      by-marked true is which = options-marked words (word ∷ []) is
+      by-marked false is (inl some) = absurd (true≢false (sym some ∙ is))
+      by-marked false is (inr plain) =
+          options-unmarked words (word ∷ []) is
+          ∙ ap (λ each. options_of words ++ each) (plain-option word plain)
+          ∙ append-nil (options_of words)
+
+  more-operand-operands : (list_any is_mark words ≡ true) ⊎ (is_dashed word ≡ false)
+      → operands_of all_words ≡ operands_of words ++ word ∷ []
+  more-operand-operands which =
+      by-marked (list_any is_mark words) refl which
+    where
+      by-marked : (marked : Bool) → list_any is_mark words ≡ marked
+          → (list_any is_mark words ≡ true) ⊎ (is_dashed word ≡ false)
+          → operands_of all_words ≡ operands_of words ++ word ∷ []
+      by-marked true is which = operands-marked words (word ∷ []) is
+      by-marked false is (inl some) = absurd (true≢false (sym some ∙ is))
+      by-marked false is (inr plain) =
+          operands-unmarked words (word ∷ []) is
+          ∙ ap (λ each. operands_of words ++ each) (plain-operand word plain)
+
+  more-operand-ended : (list_any is_mark words ≡ true) ⊎ (is_dashed word ≡ false)
+      → list_any is_mark all_words ≡ list_any is_mark words
+  more-operand-ended (inl some) =
+      one-more words word ∙ or-left (list_any is_mark words) (is_mark word) some ∙ sym some
+  more-operand-ended (inr plain) =
+      one-more words word ∙ or-none (list_any is_mark words) (is_mark word) (no-mark word plain)
+
+  module _ {A : Type 0} (old new : Arguments A) (are : AreArguments words old) where
+    -- The arguments of one more operand.
+    pub more-operand : (old.is_ended ≡ true) ⊎ (is_dashed word ≡ false)
+        → map (λ each. each.now) new.operands.items
+        ≡ map (λ each. each.now) old.operands.items ++ word ∷ []
+        → new.options ≡ old.options → new.is_ended ≡ old.is_ended → AreArguments all_words new
+    more-operand which items options ended =
+        let marked : (list_any is_mark words ≡ true) ⊎ (is_dashed word ≡ false) =
+        elim which [ inl is ↦ inl (sym are.ended ∙ is) | inr is ↦ inr is ] in
+        let same-options = more-operand-options marked in
+        record {
+          known = ap (λ each. find (λ (option : List ℕ). not (is_known option)) each) same-options
+              ∙ are.known;
+          form = ap (λ each. each.form) options ∙ are.form
+              ∙ sym (ap (λ each. unwrap_or (last_or None (filter_map form_asked each)) Blocks)
+              same-options);
+          families = ap (λ each. each.families) options ∙ are.families
+              ∙ sym (ap (λ each. unwrap_or (last_or None (filter_map families_asked each)) Both)
+              same-options);
+          question = ap (λ each. each.question) options ∙ are.question
+              ∙ sym (ap (λ each. last_or None (filter_map question_asked each)) same-options);
+          operands = items ∙ ap (λ each. each ++ word ∷ []) are.operands
+              ∙ sym (more-operand-operands marked);
+          ended = ended ∙ are.ended ∙ sym (more-operand-ended marked);
+        }
+
+    -- The arguments after `--`.
+    pub more-mark : old.is_ended ≡ false → is_mark word ≡ true
+        → map (λ each. each.now) new.operands.items ≡ map (λ each. each.now) old.operands.items
+        → new.options ≡ old.options → new.is_ended ≡ true → AreArguments all_words new
+    more-mark unended mark items options ended =
+        let none : list_any is_mark words ≡ false = sym are.ended ∙ unended in
+        let same-options : options_of all_words ≡ options_of words =
+        options-unmarked words (word ∷ []) none
+        ∙ ap (λ each. options_of words ++ each) (mark-option word mark)
+        ∙ append-nil (options_of words) in
+        record {
+          known = ap (λ each. find (λ (option : List ℕ). not (is_known option)) each) same-options
+              ∙ are.known;
+          form = ap (λ each. each.form) options ∙ are.form
+              ∙ sym (ap (λ each. unwrap_or (last_or None (filter_map form_asked each)) Blocks)
+              same-options);
+          families = ap (λ each. each.families) options ∙ are.families
+              ∙ sym (ap (λ each. unwrap_or (last_or None (filter_map families_asked each)) Both)
+              same-options);
+          question = ap (λ each. each.question) options ∙ are.question
+              ∙ sym (ap (λ each. last_or None (filter_map question_asked each)) same-options);
+          operands = items ∙ are.operands ∙ sym (append-nil (operands_of words))
+              ∙ ap (λ each. operands_of words ++ each) (sym (mark-operand word mark))
+              ∙ sym (operands-unmarked words (word ∷ []) none);
+          ended = ended ∙ sym (one-more words word
+              ∙ or-right (list_any is_mark words) (is_mark word) mark);
+        }
+
+    -- The arguments of one more option, which is known.
+    pub more-option : old.is_ended ≡ false → is_mark word ≡ false → is_dashed word ≡ true
+        → is_known word ≡ true
+        → map (λ each. each.now) new.operands.items ≡ map (λ each. each.now) old.operands.items
+        → new.options.form ≡ unwrap_or (form_asked word) old.options.form
+        → new.options.families ≡ unwrap_or (families_asked word) old.options.families
+        → new.options.question ≡ option_or (question_asked word) old.options.question
+        → new.is_ended ≡ old.is_ended → AreArguments all_words new
+    more-option unended other dashed known items form families question ended =
+        let none : list_any is_mark words ≡ false = sym are.ended ∙ unended in
+        let more : options_of all_words ≡ options_of words ++ word ∷ [] =
+        options-unmarked words (word ∷ []) none
+        ∙ ap (λ each. options_of words ++ each) (dashed-option word [] other dashed) in
+        record {
+          known = ap (λ each. find (λ (option : List ℕ). not (is_known option)) each) more
+              ∙ find-append (λ (option : List ℕ). not (is_known option)) (options_of words)
+              (word ∷ [])
+              ∙ ap (λ each. option_or each (cond (not (is_known word)) (Some word) None)) are.known
+              ∙ known-passes word (is_known word) known;
+          form = form ∙ ap (λ each. unwrap_or (form_asked word) each) are.form
+              ∙ sym (ap (λ each. unwrap_or (last_or None (filter_map form_asked each)) Blocks) more
+              ∙ ap (λ each. unwrap_or each Blocks)
+              (last-more form_asked None (options_of words) word)
+              ∙ either-default (form_asked word)
+              (last_or None (filter_map form_asked (options_of words))) Blocks);
+          families = families ∙ ap (λ each. unwrap_or (families_asked word) each) are.families
+              ∙ sym (ap (λ each. unwrap_or (last_or None (filter_map families_asked each)) Both)
+              more
+              ∙ ap (λ each. unwrap_or each Both)
+              (last-more families_asked None (options_of words) word)
+              ∙ either-default (families_asked word)
+              (last_or None (filter_map families_asked (options_of words))) Both);
+          question = question ∙ ap (λ each. option_or (question_asked word) each) are.question
+              ∙ sym (ap (λ each. last_or None (filter_map question_asked each)) more
+              ∙ last-more question_asked None (options_of words) word);
+          operands = items ∙ are.operands ∙ sym (append-nil (operands_of words))
+              ∙ ap (λ each. operands_of words ++ each) (sym (dashed-operand word other dashed))
+              ∙ sym (operands-unmarked words (word ∷ []) none);
+          ended = ended ∙ are.ended
+              ∙ sym (one-more words word ∙ or-none (list_any is_mark words) (is_mark word) other);
+        }
+
+    -- An option that is unknown is the first one, whatever follows it.
+    pub first-unknown : (after : List (List ℕ)) → old.is_ended ≡ false → is_mark word ≡ false
+        → is_dashed word ≡ true → is_known word ≡ false
+        → first_unknown (words ++ word ∷ after) ≡ Some word
+    first-unknown after unended other dashed unknown =
+        let none : list_any is_mark words ≡ false = sym are.ended ∙ unended in
+        let parts : options_of (words ++ word ∷ after)
+        ≡ options_of words ++ word ∷ options_of after =
+        options-unmarked words (word ∷ after) none
+        ∙ ap (λ each. options_of words ++ each) (dashed-option word after other dashed) in
+        let test : List ℕ → Bool = λ option. not (is_known option) in
+        ap (λ each. find test each) parts
+        ∙ find-append test (options_of words) (word ∷ options_of after)
+        ∙ ap (λ each. option_or each (cond (not (is_known word)) (Some word)
+        (find test (options_of after)))) are.known
+        ∙ unknown-found word (find test (options_of after)) (is_known word) unknown

@@ -1,0 +1,29 @@
+use Rattle.ip_commands.proofs.lemmas.Program.{answered-good, ends-in, request-fault}
+use Rattle.ip_commands.specs.declared.fault.Fault.TheVariants.{NotWritten}
+use Rattle.ip_commands.proofs.program.answer.Goals as goal
+
+-- The request had a fault.
+pub returns-in_err-outcome : goal.returns-in_err-outcome
+returns-in_err-outcome g c words are =
+    let bytes = g.I.Inputs.bytes c.args.inputs.now in
+    let contents = g.W.Write.contents in
+    ends-in bytes words (contents c.args.output.now) (contents c.run.new.output)
+    c.from_residual-in_err-outcome.result c.in_err-outcome.field-0.0
+    c.from_residual-in_err-outcome.ensures.1
+    (request-fault bytes words (contents c.args.output.now) (contents c.run.new.output)
+    c.in_ok-request.request c.in_err-outcome.field-0.0 (c.in_ok-request.ensures words are)
+    c.in_err-outcome.ensures.first c.in_err-outcome.ensures.keeps)
+
+-- The output could not be flushed.
+pub returns-in_err-flush : goal.returns-in_err-flush
+returns-in_err-flush g c words are =
+    let bytes = g.I.Inputs.bytes c.args.inputs.now in
+    let contents = g.W.Write.contents in
+    let old = contents c.args.output.now in
+    ends-in bytes words old (contents c.flush.new.self) c.from_residual-in_err-flush.result
+    (NotWritten c.in_err-flush.field-0.0) c.from_residual-in_err-flush.ensures.1 (
+      c.in_ok-request.request,
+      c.in_ok-request.ensures words are,
+      answered-good bytes words old (contents c.run.new.output) c.in_ok-request.request
+          c.in_ok-outcome.outcome c.in_ok-outcome.ensures.answers,
+    )

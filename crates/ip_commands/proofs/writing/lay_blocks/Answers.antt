@@ -1,0 +1,48 @@
+use Rattle.std.proofs.Common.{refl, subst}
+use Rattle.std.specs.List.{flat_map}
+use Rattle.ip_sets.specs.BlocksLeft.{block_runs, blocks_may_give}
+use Rattle.ip_sets.proofs.lemmas.aligned.Left.{all-aligned, all-given}
+use Rattle.ip_commands.specs.Text.{block_line}
+use Rattle.ip_commands.proofs.lemmas.Laid.{lays-item, lays-nothing}
+use Rattle.ip_commands.proofs.writing.lay_blocks.Goals as goal
+
+-- No block was laid at first.
+pub loop-block-init : goal.loop-block-init
+loop-block-init g c = lays-nothing _ _
+
+-- One more block was laid.
+pub loop-block-preserved : goal.loop-block-preserved
+loop-block-preserved g c =
+    lays-item (block_line g.T.AddressText.text g.T.Integer.rank g.T.Address.width) _ _ _ _ _ _ _
+    c.loop-block.yielded _ c.loop-block.invariant c.in_ok-make_room.ensures.laid c.lay_block.ensures
+
+-- The blocks that came are those of what the stream may give.
+pub returns : goal.returns
+returns g c =
+    let rank = g.T.Integer.rank in
+    let width = g.T.Address.width in
+    let runs_of = block_runs rank width in
+    let items = c.loop-block.yielded in
+    let may = g.I.Draw.may_give in
+    let given = all-given rank width may items c.into_iter-block-iterator.result
+    c.loop-block.block-iterator c.next.new.self c.loop-block.yielded_by c.in-None.ensures.steps in
+    let at = c.blocks-block-items.ensures.gives (runs_of items)
+    (subst (λ each. blocks_may_give rank may each (runs_of items))
+    c.into_iter-block-iterator.ensures.into_iter_gives given) in (
+      at.0,
+      at.1,
+      (
+        flat_map (block_line g.T.AddressText.text rank width) items,
+        record {
+          canonical = g.met.I.DrawDisjoint.canonical c.args.ranges c.requires at.0 at.1;
+          written = record {
+            blocks = items;
+            aligned = all-aligned rank width may items c.into_iter-block-iterator.result
+                c.loop-block.block-iterator c.loop-block.yielded_by;
+            fewest = at.2;
+            whole = refl;
+          };
+        },
+        c.loop-block.invariant,
+      ),
+    )

@@ -1,0 +1,194 @@
+-- Command lines: what the words after the program's name ask for, or the first thing that is wrong
+-- with them.
+use Rattle.std.specs.Prelude.{◌≡◌, ℕ, ◌^◌, ◌<◌, ◌≤◌, Bool, not, ◌&&◌, ◌||◌, List, [], ◌∷◌, ◌++◌, Option, Some, None, is_some, unwrap_or, bytes_eq, codes, filter, filter_map, find, if◌then◌else◌, length, map, nat_lt}
+use Rattle.std.specs.List.{last_or, list_any}
+use Rattle.std.specs.Option.{IsSomeAnd}
+use Rattle.std.specs.Str.Parse.{IsNumeral, digits_value, starts_with_minus, without_leading_plus}
+use Rattle.std.specs.Net.Grammar.{IsIpText}
+use Rattle.std.specs.declared.net.ip_addr.IpAddr.{IpAddr}
+use Rattle.ip_sets.specs.declared.operations.Operation.{Operation}
+use Rattle.ip_sets.specs.declared.operations.Operation.TheVariants.{AtLeast, Common, Complement, Except, Odd, Union}
+use Rattle.ip_commands.specs.declared.arguments.Arguments.{Arguments}
+use Rattle.ip_commands.specs.declared.arguments.Question.{Question}
+use Rattle.ip_commands.specs.declared.arguments.Question.TheVariants as Asked
+use Rattle.ip_commands.specs.declared.fault.Fault.{Fault}
+use Rattle.ip_commands.specs.declared.fault.Fault.TheVariants.{BadLine, CommandLine, NoMemory, NotRead, NotWritten}
+use Rattle.ip_commands.specs.declared.fault.Misuse.{Misuse}
+use Rattle.ip_commands.specs.declared.fault.Misuse.TheVariants.{NoAddress, NoCommand, NoNumber, TooFewWords, UnknownCommand, UnknownOption}
+use Rattle.ip_commands.specs.declared.request.Families.{Families}
+use Rattle.ip_commands.specs.declared.request.Families.TheVariants.{Both, V4, V6}
+use Rattle.ip_commands.specs.declared.request.Form.{Form}
+use Rattle.ip_commands.specs.declared.request.Form.TheVariants.{Blocks, Ranges}
+use Rattle.ip_commands.specs.declared.request.Request.{Request}
+use Rattle.ip_commands.specs.declared.request.Request.TheVariants.{Combine, Count, Has, Help, Version}
+
+-- ---- options and operands
+
+-- Whether a word begins with a dash and has more bytes.
+abbrev pub is_dashed : List ℕ → Bool
+is_dashed word = nat_lt 1 (length word) && starts_with_minus word
+
+-- Whether a word is `--`.
+abbrev pub is_mark : List ℕ → Bool
+is_mark word = bytes_eq word (codes "--")
+
+-- The words before the first `--`, or all words if there is none.
+abbrev pub before_mark : List (List ℕ) → List (List ℕ)
+before_mark [] = []
+before_mark (word ∷ words) = if is_mark word then [] else (word ∷ before_mark words)
+
+-- The words after the first `--`.
+abbrev pub after_mark : List (List ℕ) → List (List ℕ)
+after_mark [] = []
+after_mark (word ∷ words) = if is_mark word then words else after_mark words
+
+-- The options of a command line: the dashed words before `--`.
+abbrev pub options_of : List (List ℕ) → List (List ℕ)
+options_of words = filter is_dashed (before_mark words)
+
+-- The operands of a command line: the other words before `--`, and all words after it.
+abbrev pub operands_of : List (List ℕ) → List (List ℕ)
+operands_of words = filter (λ (word : List ℕ). not (is_dashed word)) (before_mark words)
+    ++ after_mark words
+
+-- ---- what an option asks for, if it is about this
+
+-- The form of the addresses.
+abbrev pub form_asked : List ℕ → Option Form
+form_asked word = if bytes_eq word (codes "--blocks") then Some Blocks
+    else (if bytes_eq word (codes "--ranges") then Some Ranges else None)
+
+-- The families of addresses.
+abbrev pub families_asked : List ℕ → Option Families
+families_asked word = if bytes_eq word (codes "-4") then Some V4
+    else (if bytes_eq word (codes "-6") then Some V6 else None)
+
+-- A question about the program itself.
+abbrev pub question_asked : List ℕ → Option Question
+question_asked word = if bytes_eq word (codes "--help") then Some Asked.Help
+    else (if bytes_eq word (codes "--version") then Some Asked.Version else None)
+
+-- Whether an option is one that the program has.
+abbrev pub is_known : List ℕ → Bool
+is_known word = is_some (form_asked word)
+    || (is_some (families_asked word) || is_some (question_asked word))
+
+-- ---- what a command line asks for. Of options about the same, the last one counts.
+
+-- The first option that the program does not have.
+abbrev pub first_unknown : List (List ℕ) → Option (List ℕ)
+first_unknown words = find (λ (word : List ℕ). not (is_known word)) (options_of words)
+
+-- The form of the addresses: blocks, if no option says otherwise.
+abbrev pub form_of : List (List ℕ) → Form
+form_of words = unwrap_or (last_or None (filter_map form_asked (options_of words))) Blocks
+
+-- The families of addresses: both, if no option says otherwise.
+abbrev pub families_of : List (List ℕ) → Families
+families_of words = unwrap_or (last_or None (filter_map families_asked (options_of words))) Both
+
+-- The question about the program itself.
+abbrev pub question_of : List (List ℕ) → Option Question
+question_of words = last_or None (filter_map question_asked (options_of words))
+
+-- ---- what operands ask for
+
+-- How many words a command needs after it, if the word is a command.
+abbrev pub words_needed : List ℕ → Option ℕ
+words_needed word = if bytes_eq word (codes "union") then Some 1
+    else (if bytes_eq word (codes "common") then Some 1
+    else (if bytes_eq word (codes "except") then Some 2
+    else (if bytes_eq word (codes "odd") then Some 1
+    else (if bytes_eq word (codes "at-least") then Some 2
+    else (if bytes_eq word (codes "complement") then Some 1
+    else (if bytes_eq word (codes "count") then Some 1
+    else (if bytes_eq word (codes "has") then Some 2 else None)))))))
+
+-- Whether a word is a number of lists, in decimals. A plus may come first.
+abbrev pub IsNumber : List ℕ → Type 0
+IsNumber word = IsNumeral 10 (without_leading_plus word)
+    × (digits_value 10 (without_leading_plus word) < 2 ^ 64)
+
+-- Whether a word is this number of lists.
+abbrev pub IsNumberOf : List ℕ → ℕ → Type 0
+IsNumberOf word count = IsNumber word × (count ≡ digits_value 10 (without_leading_plus word))
+
+-- Whether the operands are the command of an operation, and these files.
+abbrev pub IsOperation : List (List ℕ) → Operation → List (List ℕ) → Type 0
+IsOperation operands Union files = operands ≡ codes "union" ∷ files
+IsOperation operands Common files = operands ≡ codes "common" ∷ files
+IsOperation operands Except files = (operands ≡ codes "except" ∷ files) × (2 ≤ length files)
+IsOperation operands Odd files = operands ≡ codes "odd" ∷ files
+IsOperation operands (AtLeast count) files =
+    (word : List ℕ) × (operands ≡ codes "at-least" ∷ word ∷ files) × IsNumberOf word count
+IsOperation operands Complement files = operands ≡ codes "complement" ∷ files
+
+module _ (form : Form) (families : Families) (operands : List (List ℕ)) where
+  -- Whether the operands ask for this, in this form and of these families. Each command needs a
+  -- file.
+  abbrev pub IsRequestWith : Request → Type 0
+  IsRequestWith Help = ⊥
+  IsRequestWith Version = ⊥
+  IsRequestWith (Combine it) = (it.form ≡ form) × (it.families ≡ families)
+      × IsOperation operands it.operation (map (λ name. name.now) it.files.now)
+      × (1 ≤ length it.files.now)
+  IsRequestWith (Count which files) = (which ≡ families)
+      × (operands ≡ codes "count" ∷ map (λ name. name.now) files.now) × (1 ≤ length files.now)
+  IsRequestWith (Has address files) = (word : List ℕ)
+      × (operands ≡ codes "has" ∷ word ∷ map (λ name. name.now) files.now)
+      × IsIpText word address × (1 ≤ length files.now)
+
+-- Whether this is the first thing that is wrong with the operands.
+abbrev pub IsMisuseOfOperands : List (List ℕ) → Misuse → Type 0
+IsMisuseOfOperands operands NoCommand = operands ≡ []
+IsMisuseOfOperands operands (UnknownCommand word) = (others : List (List ℕ))
+    × (operands ≡ word.now ∷ others) × (words_needed word.now ≡ None)
+IsMisuseOfOperands operands (UnknownOption word) = ⊥
+IsMisuseOfOperands operands (NoNumber word) = (files : List (List ℕ))
+    × (operands ≡ codes "at-least" ∷ word.now ∷ files) × (1 ≤ length files) × ¬ IsNumber word.now
+IsMisuseOfOperands operands (NoAddress word) = (files : List (List ℕ))
+    × (operands ≡ codes "has" ∷ word.now ∷ files) × (1 ≤ length files)
+    × ((address : IpAddr) → ¬ IsIpText word.now address)
+IsMisuseOfOperands operands TooFewWords = (command : List ℕ) × (others : List (List ℕ))
+    × (operands ≡ command ∷ others)
+    × IsSomeAnd (words_needed command) (λ needed. length others < needed)
+
+-- ---- what words ask for
+
+-- Whether words whose options are all known ask for this. A question is answered whatever the
+-- operands are.
+abbrev pub Asks : Option Question → List (List ℕ) → Request → Type 0
+Asks (Some Asked.Help) words request = request ≡ Help
+Asks (Some Asked.Version) words request = request ≡ Version
+Asks None words request =
+    IsRequestWith (form_of words) (families_of words) (operands_of words) request
+
+-- Whether the words ask for this.
+abbrev pub IsRequest : List (List ℕ) → Request → Type 0
+IsRequest words request = (first_unknown words ≡ None) × Asks (question_of words) words request
+
+-- Whether this is the first thing that is wrong with the words, where options count first.
+abbrev pub IsMisuse : List (List ℕ) → Misuse → Type 0
+IsMisuse words (UnknownOption word) = first_unknown words ≡ Some word.now
+IsMisuse words misuse = (first_unknown words ≡ None) × (question_of words ≡ None)
+    × IsMisuseOfOperands (operands_of words) misuse
+
+-- ---- arguments
+
+-- Whether the arguments are those of the words, whose options are all known.
+pub record AreArguments {A : Type 0} (words : List (List ℕ)) (arguments : Arguments A) : Type 0
+  where
+    pub known : first_unknown words ≡ None
+    pub form : arguments.options.form ≡ form_of words
+    pub families : arguments.options.families ≡ families_of words
+    pub question : arguments.options.question ≡ question_of words
+    pub operands : map (λ word. word.now) arguments.operands.items ≡ operands_of words
+    pub ended : arguments.is_ended ≡ list_any is_mark words
+
+-- Whether the fault is the first option that is unknown, or a failed allocation.
+abbrev pub IsWordFault : List (List ℕ) → Fault → Type 0
+IsWordFault words (BadLine file line) = ⊥
+IsWordFault words (NotRead file error) = ⊥
+IsWordFault words (NotWritten error) = ⊥
+IsWordFault words NoMemory = Unit {0}
+IsWordFault words (CommandLine misuse) = IsMisuse words misuse

@@ -1,0 +1,88 @@
+-- What the lists in files select, and the first fault in them.
+use Rattle.std.specs.Prelude.{◌≡◌, ℕ, List, ◌∷◌, ◌++◌, All, IfSome, Option}
+use Rattle.std.specs.Io.KnownBytes.{Keeps}
+use Rattle.std.specs.List.{AllZip}
+use Rattle.range_set_blaze.specs.Runs.{members}
+use Rattle.range_set_blaze.specs.Selection.{Selection}
+use Rattle.ip_sets.specs.List.{IsFirstBadLine, IsListOf}
+use Rattle.ip_sets.specs.declared.list.AddressList.{AddressList}
+use Rattle.ip_commands.specs.declared.fault.Fault.{Fault}
+use Rattle.ip_commands.specs.declared.fault.Fault.TheVariants.{BadLine, CommandLine, NoMemory, NotRead, NotWritten}
+
+-- The addresses that a list selects, in each family.
+pub record Selected : Type 0 where
+  pub v4 : Selection
+  pub v6 : Selection
+
+-- The addresses of a list.
+abbrev pub selected : {A : Type 0} → AddressList A → Selected
+selected list = record { v4 = members list.v4; v6 = members list.v6 }
+
+module _ (bytes : List ℕ → Option (List ℕ)) where
+  -- Whether the file with this name is a list that selects these addresses. If its bytes are not
+  -- known, this claims nothing.
+  abbrev pub IsFileOf : List ℕ → Selected → Type 0
+  IsFileOf file sets = IfSome (bytes file) (λ all. IsListOf all sets.v4 sets.v6)
+
+  -- Whether the files are lists that select these addresses, in order.
+  abbrev pub AreFilesOf : List (List ℕ) → List Selected → Type 0
+  AreFilesOf files lists = AllZip IsFileOf files lists
+
+  -- Whether the file is a list.
+  abbrev pub IsGoodFile : List ℕ → Type 0
+  IsGoodFile file = (sets : Selected) × IsFileOf file sets
+
+  -- Whether the file is one of these, and each before it is a list.
+  pub record IsFirstFile (files : List (List ℕ)) (file : List ℕ) : Type 0 where
+    pub before : List (List ℕ)
+    pub after : List (List ℕ)
+    pub parts : files ≡ before ++ file ∷ after
+    pub good : All IsGoodFile before
+
+  -- Whether the file is the first of these that has a bad line, and the number is that of the first
+  -- such line in it.
+  pub record IsFirstBadFile (files : List (List ℕ)) (file : List ℕ) (line : ℕ) : Type 0 where
+    pub first : IsFirstFile files file
+    pub bad : IfSome (bytes file) (λ all. IsFirstBadLine all line)
+
+  -- Whether the fault is the first one, if it is about a file. A write can fail only after each of
+  -- the files was read as a list, and no fault here is about the command line.
+  abbrev pub IsFirstFault : List (List ℕ) → Fault → Type 0
+  IsFirstFault files (BadLine file line) = IsFirstBadFile files file.now line
+  IsFirstFault files (NotRead file error) = IsFirstFile files file.now
+  IsFirstFault files (NotWritten error) = All IsGoodFile files
+  IsFirstFault files NoMemory = Unit {0}
+  IsFirstFault files (CommandLine misuse) = ⊥
+
+  -- Whether the fault is one of this file, if it is about a file.
+  abbrev pub IsFaultOf : List ℕ → Fault → Type 0
+  IsFaultOf name (BadLine file line) =
+      (file.now ≡ name) × IfSome (bytes name) (λ all. IsFirstBadLine all line)
+  IsFaultOf name (NotRead file error) = file.now ≡ name
+  IsFaultOf name (NotWritten error) = ⊥
+  IsFaultOf name NoMemory = Unit {0}
+  IsFaultOf name (CommandLine misuse) = ⊥
+
+-- Whether the fault is a failed read of this file, or a failed allocation.
+abbrev pub IsNotRead : List ℕ → Fault → Type 0
+IsNotRead name (BadLine file line) = ⊥
+IsNotRead name (NotRead file error) = file.now ≡ name
+IsNotRead name (NotWritten error) = ⊥
+IsNotRead name NoMemory = Unit {0}
+IsNotRead name (CommandLine misuse) = ⊥
+
+-- Whether nothing was written, unless the fault is a failed write.
+abbrev pub KeepsUnlessWriting : Fault → Option (List ℕ) → Option (List ℕ) → Type 0
+KeepsUnlessWriting (BadLine file line) old new = Keeps old new
+KeepsUnlessWriting (NotRead file error) old new = Keeps old new
+KeepsUnlessWriting (NotWritten error) old new = Unit {0}
+KeepsUnlessWriting NoMemory old new = Keeps old new
+KeepsUnlessWriting (CommandLine misuse) old new = Keeps old new
+
+-- Whether the fault can come after all files were read: a failed allocation or a failed write.
+abbrev pub IsAfterReading : Fault → Type 0
+IsAfterReading (BadLine file line) = ⊥
+IsAfterReading (NotRead file error) = ⊥
+IsAfterReading (NotWritten error) = Unit {0}
+IsAfterReading NoMemory = Unit {0}
+IsAfterReading (CommandLine misuse) = ⊥

@@ -1,0 +1,34 @@
+-- How the program ends, from the words after its name and the files to its output.
+use Rattle.std.specs.Prelude.{ℕ, All, List, Option, Result, Ok, Err}
+use Rattle.std.specs.Io.KnownBytes.{Keeps}
+use Rattle.ip_commands.specs.Answer.{Answers}
+use Rattle.ip_commands.specs.CommandLine.{IsMisuse, IsRequest}
+use Rattle.ip_commands.specs.Files.{IsFirstBadFile, IsFirstFile, IsGoodFile}
+use Rattle.ip_commands.specs.Request.{files_of}
+use Rattle.ip_commands.specs.declared.commands.Outcome.{Outcome}
+use Rattle.ip_commands.specs.declared.fault.Fault.{Fault}
+use Rattle.ip_commands.specs.declared.fault.Fault.TheVariants.{BadLine, CommandLine, NoMemory, NotRead, NotWritten}
+use Rattle.ip_commands.specs.declared.request.Request.{Request}
+
+-- `bytes` are those of the file with a name, and `old` and `new` those of the output, if they are
+-- known.
+module _ (bytes : List ℕ → Option (List ℕ)) (words : List (List ℕ)) (old new : Option (List ℕ))
+  where
+    -- Whether the words ask for something, and the fault is the first one in it. Nothing was
+    -- written then, unless a write failed. A write comes only after each file was read as a list.
+    abbrev pub EndsInFault : Fault → Type 0
+    EndsInFault (BadLine file line) = (request : Request) × IsRequest words request
+        × IsFirstBadFile bytes (files_of request) file.now line × Keeps old new
+    EndsInFault (NotRead file error) = (request : Request) × IsRequest words request
+        × IsFirstFile bytes (files_of request) file.now × Keeps old new
+    EndsInFault (NotWritten error) = (request : Request) × IsRequest words request
+        × All (IsGoodFile bytes) (files_of request)
+    EndsInFault NoMemory = Keeps old new
+    EndsInFault (CommandLine misuse) = IsMisuse words misuse × Keeps old new
+
+    -- Whether a run on these words ends like this: what they ask for was answered, or there was a
+    -- fault.
+    abbrev pub Ends : Result Outcome Fault → Type 0
+    Ends (Ok outcome) =
+        (request : Request) × IsRequest words request × Answers bytes request outcome old new
+    Ends (Err fault) = EndsInFault fault

@@ -1,0 +1,253 @@
+//! The command line. It is read here and not by `clap`, whose errors have several lines, and whose
+//! exact contracts cover only simple commands.
+
+ghost use Rattle.std.specs.Prelude.{◌≡◌, ℕ, [], ◌∷◌, ◌++◌, IfErr, IfOk, IsFalse, IsTrue, List, MatchResult, OnOk, codes, map, unwrap_or};
+ghost use Rattle.std.specs.Option.{option_or};
+ghost use Rattle.ip_commands.specs.CommandLine.{
+  AreArguments,
+  IsMisuse,
+  IsRequest,
+  IsMisuseOfOperands,
+  IsOperation,
+  IsRequestWith,
+  IsWordFault,
+  families_asked,
+  form_asked,
+  is_dashed,
+  is_known,
+  question_asked,
+};
+
+use crate::fault::{Fault, Misuse};
+use crate::request::{Combination, Families, Form, Request};
+use ip_sets::Operation;
+use std::alloc::Allocator;
+use std::convert::AsStr;
+use std::net::IpAddr;
+
+/// The words of a command line, with its options apart.
+#[derive(Drop)]
+pub struct Arguments<'a, A: Allocator> {
+    // The words that are no options.
+    operands: Vec<&'a str, A>,
+    options: Options,
+    // Whether `--` came. No word after it is an option.
+    is_ended: bool,
+}
+
+// What the options ask for.
+#[derive(Clone, Copy)]
+struct Options {
+    form: Form,
+    families: Families,
+    question: Option<Question>,
+}
+
+// What is asked about the program itself.
+#[derive(Clone, Copy)]
+enum Question {
+    Help,
+    Version,
+}
+
+impl<'a, A: Allocator> Arguments<'a, A> {
+    /// Returns the arguments of the words after the program's name.
+    ///
+    /// A word that begins with a dash is an option, and may be anywhere. But `-` is an operand, and
+    /// so is each word after `--`. Of options that exclude each other, the last one counts.
+    ///
+    /// The error is the first option that is unknown, or a failed allocation.
+    pub fn new<S: AsStr>(alloc: A, words: &'a [S]) -> Result<Self, Fault<'a>>
+        ensures arguments { IfOk result (AreArguments (map S.text words.now)) }
+        ensures fault { IfErr result (IsWordFault (map S.text words.now)) }
+    {
+        let mut arguments = Arguments {
+            operands: Vec::new(alloc),
+            options: Options {
+                form: Form::Blocks,
+                families: Families::Both,
+                question: None,
+            },
+            is_ended: false,
+        };
+        for word in words {
+            arguments.add(word.as_str())?;
+        }
+        Ok(arguments)
+    }
+
+    // Adds the next word.
+    fn add(&mut self, word: &'a str) -> Result<(), Fault<'a>>
+        ensures arguments { (words : List (List ℕ)) → AreArguments words self.old
+            → OnOk result (AreArguments (words ++ word.now ∷ []) self.new) }
+        ensures fault { (before after : List (List ℕ)) → AreArguments before self.old
+            → IfErr result (IsWordFault (before ++ word.now ∷ after)) }
+    {
+        if self.is_ended || !is_dashed(word) {
+            self.operands.push(word)?;
+            return Ok(());
+        }
+        if word == "--" {
+            self.is_ended = true;
+            return Ok(());
+        }
+        self.options = with_option(self.options, word)?;
+        Ok(())
+    }
+
+    /// Returns what the arguments ask for, or the first thing that is wrong with the operands.
+    /// `--help` and `--version` are answered whatever the operands are.
+    pub fn request(&self) -> Result<Request<'_>, Misuse<'_>>
+        ensures { (words : List (List ℕ)) → AreArguments words self.now
+            → MatchResult result (IsRequest words) (IsMisuse words) }
+    {
+        match self.options.question {
+            Some(Question::Help) => Ok(Request::Help),
+            Some(Question::Version) => Ok(Request::Version),
+            None => request_of(self.options, &self.operands),
+        }
+    }
+}
+
+// Returns whether a word is an option or `--`: a dash and more.
+fn is_dashed(word: &str) -> bool
+    ensures { result ≡ is_dashed word.now }
+{
+    matches!(word.as_bytes(), [b'-', _, ..])
+}
+
+// Returns the options with one more.
+fn with_option<'a>(options: Options, word: &'a str) -> Result<Options, Misuse<'a>>
+    ensures form { IfOk result (λ new. new.form ≡ unwrap_or (form_asked word.now) options.form) }
+    ensures families { IfOk result (λ new.
+        new.families ≡ unwrap_or (families_asked word.now) options.families) }
+    ensures question { IfOk result (λ new.
+        new.question ≡ option_or (question_asked word.now) options.question) }
+    ensures known { IfOk result (λ new. IsTrue (is_known word.now)) }
+    ensures unknown { IfErr result (λ misuse. IsFalse (is_known word.now)
+        × (misuse ≡ Misuse.UnknownOption word.entry)) }
+{
+    let mut options = options;
+    match word {
+        "--blocks" => options.form = Form::Blocks,
+        "--ranges" => options.form = Form::Ranges,
+        "-4" => options.families = Families::V4,
+        "-6" => options.families = Families::V6,
+        "--help" => options.question = Some(Question::Help),
+        "--version" => options.question = Some(Question::Version),
+        _ => return Err(Misuse::UnknownOption(word)),
+    }
+    Ok(options)
+}
+
+// Returns what a command and the words after it ask for.
+fn request_of<'a>(options: Options, operands: &'a [&'a str]) -> Result<Request<'a>, Misuse<'a>>
+    ensures { MatchResult result
+        (IsRequestWith options.form options.families (map (λ word. word.now) operands.now))
+        (IsMisuseOfOperands (map (λ word. word.now) operands.now)) }
+{
+    let [command, words @ ..] = operands else {
+        return Err(Misuse::NoCommand);
+    };
+    match *command {
+        "union" => combination(options, Operation::Union, words),
+        "common" => combination(options, Operation::Common, words),
+        "except" => except(options, words),
+        "odd" => combination(options, Operation::Odd, words),
+        "at-least" => at_least(options, words),
+        "complement" => combination(options, Operation::Complement, words),
+        "count" => count(options, words),
+        "has" => has(options, words),
+        _ => Err(Misuse::UnknownCommand(*command)),
+    }
+}
+
+// Returns what an operation on some files asks for.
+fn combination<'a>(
+    options: Options,
+    operation: Operation,
+    files: &'a [&'a str],
+) -> Result<Request<'a>, Misuse<'a>>
+    ensures request { (operands : List (List ℕ))
+        → IsOperation operands operation (map (λ name. name.now) files.now)
+        → IfOk result (IsRequestWith options.form options.families operands) }
+    ensures misuse { IfErr result (λ misuse. (misuse ≡ Misuse.TooFewWords)
+        × (files.now ≡ [])) }
+{
+    if files.is_empty() {
+        return Err(Misuse::TooFewWords);
+    }
+    Ok(Request::Combine(Combination {
+        operation,
+        form: options.form,
+        families: options.families,
+        files,
+    }))
+}
+
+// Returns what `except` and the words after it ask for.
+fn except<'a>(options: Options, files: &'a [&'a str]) -> Result<Request<'a>, Misuse<'a>>
+    ensures request { IfOk result (IsRequestWith options.form options.families
+        (codes "except" ∷ map (λ name. name.now) files.now)) }
+    ensures misuse { IfErr result (IsMisuseOfOperands
+        (codes "except" ∷ map (λ name. name.now) files.now)) }
+{
+    if files.len() < 2 {
+        return Err(Misuse::TooFewWords);
+    }
+    combination(options, Operation::Except, files)
+}
+
+// Returns what `at-least` and the words after it ask for.
+fn at_least<'a>(options: Options, words: &'a [&'a str]) -> Result<Request<'a>, Misuse<'a>>
+    ensures request { IfOk result (IsRequestWith options.form options.families
+        (codes "at-least" ∷ map (λ word. word.now) words.now)) }
+    ensures misuse { IfErr result (IsMisuseOfOperands
+        (codes "at-least" ∷ map (λ word. word.now) words.now)) }
+{
+    let [number, files @ ..] = words else {
+        return Err(Misuse::TooFewWords);
+    };
+    if files.is_empty() {
+        return Err(Misuse::TooFewWords);
+    }
+    match number.parse::<usize>() {
+        Ok(count) => combination(options, Operation::AtLeast(count), files),
+        Err(_) => Err(Misuse::NoNumber(*number)),
+    }
+}
+
+// Returns what `count` and the words after it ask for.
+fn count<'a>(options: Options, files: &'a [&'a str]) -> Result<Request<'a>, Misuse<'a>>
+    ensures request { IfOk result (IsRequestWith options.form options.families
+        (codes "count" ∷ map (λ name. name.now) files.now)) }
+    ensures misuse { IfErr result (IsMisuseOfOperands
+        (codes "count" ∷ map (λ name. name.now) files.now)) }
+{
+    if files.is_empty() {
+        return Err(Misuse::TooFewWords);
+    }
+    Ok(Request::Count {
+        families: options.families,
+        files,
+    })
+}
+
+// Returns what `has` and the words after it ask for.
+fn has<'a>(options: Options, words: &'a [&'a str]) -> Result<Request<'a>, Misuse<'a>>
+    ensures request { IfOk result (IsRequestWith options.form options.families
+        (codes "has" ∷ map (λ word. word.now) words.now)) }
+    ensures misuse { IfErr result (IsMisuseOfOperands
+        (codes "has" ∷ map (λ word. word.now) words.now)) }
+{
+    let [text, files @ ..] = words else {
+        return Err(Misuse::TooFewWords);
+    };
+    if files.is_empty() {
+        return Err(Misuse::TooFewWords);
+    }
+    match text.parse::<IpAddr>() {
+        Ok(address) => Ok(Request::Has { address, files }),
+        Err(_) => Err(Misuse::NoAddress(*text)),
+    }
+}

@@ -1,0 +1,91 @@
+//! The commands. Each reads all of its lists, and then writes its answer.
+
+ghost use Rattle.std.specs.Prelude.{◌≡◌, IfErr, IfOk, OnOk};
+ghost use Rattle.std.specs.Io.KnownBytes.{Appends};
+ghost use Rattle.ip_commands.specs.Answer.{Answers};
+ghost use Rattle.ip_commands.specs.Fault.{outcome_status};
+ghost use Rattle.ip_commands.specs.Files.{IsFirstFault, KeepsUnlessWriting};
+ghost use Rattle.ip_commands.specs.Request.{files_of};
+
+mod combination;
+mod count;
+mod has;
+mod lists;
+
+use crate::commands::combination::write_combination;
+use crate::commands::count::write_counts;
+use crate::commands::has::write_names;
+use crate::fault::Fault;
+use crate::inputs::Inputs;
+use crate::request::Request;
+use std::alloc::Allocator;
+use std::io::Write;
+
+/// How a command without a fault ended.
+#[derive(Clone, Copy, Debug, PartialEq, Eq)]
+pub enum Outcome {
+    /// It wrote its answer.
+    Done,
+    /// No list has the address.
+    InNone,
+}
+
+impl Outcome {
+    /// Returns the exit status: 0 or 1.
+    pub fn status(self) -> u8
+        ensures { result ≡ outcome_status self }
+    {
+        match self {
+            Outcome::Done => 0,
+            Outcome::InNone => 1,
+        }
+    }
+}
+
+/// How the program is called.
+pub const HELP: &str = "\
+usage: ip_lists union FILE..          what some list has
+       ip_lists common FILE..         what every list has
+       ip_lists except FILE FILE..    what the first list has and no other
+       ip_lists odd FILE..            what an odd number of lists have
+       ip_lists at-least K FILE..     what at least K of the lists have
+       ip_lists complement FILE..     what no list has
+       ip_lists count FILE..          how many addresses and blocks some list has
+       ip_lists has ADDRESS FILE..    which lists have the address
+options: --blocks (the default), --ranges, -4, -6, --help, --version
+";
+
+/// The program's name and version.
+pub const VERSION: &str = "ip_lists 0.1.0\n";
+
+/// Reads all lists that a request names, in order, and then writes the answer.
+///
+/// Returns the first fault. Nothing was written then, unless a write failed. A write comes only
+/// after all lists were read.
+pub fn run<'a, A: Allocator + Copy, I: Inputs, W: Write>(
+    alloc: A,
+    inputs: &I,
+    request: Request<'a>,
+    output: &mut W,
+) -> Result<Outcome, Fault<'a>>
+    ensures answers { IfOk result (λ outcome. Answers (I.bytes inputs.now) request.entry outcome
+        (W.contents output.old) (W.contents output.new)) }
+    ensures help { request.entry ≡ Request.Help
+        → OnOk result (Appends (W.contents output.old) (W.contents output.new) HELP.now) }
+    ensures version { request.entry ≡ Request.Version
+        → OnOk result (Appends (W.contents output.old) (W.contents output.new) VERSION.now) }
+    ensures first { IfErr result (IsFirstFault (I.bytes inputs.now) (files_of request.entry)) }
+    ensures keeps { IfErr result (λ fault.
+        KeepsUnlessWriting fault (W.contents output.old) (W.contents output.new)) }
+{
+    match request {
+        Request::Help => output.write_all(HELP.as_bytes())?,
+        Request::Version => output.write_all(VERSION.as_bytes())?,
+        Request::Combine(combination) => write_combination(alloc, inputs, combination, output)?,
+        Request::Count { families, files } => write_counts(alloc, inputs, families, files, output)?,
+        Request::Has { address, files } => {
+            return write_names(alloc, inputs, address, files, output);
+        }
+    }
+    Ok(Outcome::Done)
+}

@@ -1,0 +1,106 @@
+//! Operations on the lists of files.
+
+ghost use Rattle.std.specs.Prelude.{◌≡◌, ℕ, ◌^◌, IfErr, IfOk, List, OnOk, map};
+ghost use Rattle.std.specs.Io.KnownBytes.{Appends};
+ghost use Rattle.range_set_blaze.specs.Runs.{AreRuns, members};
+ghost use Rattle.range_set_blaze.specs.Selection.{Selection};
+ghost use Rattle.rsb_streams.specs.Stream.{◌⊆◌};
+ghost use Rattle.ip_sets.specs.Operation.{selected_by};
+ghost use Rattle.ip_commands.specs.Answer.{IsCombined};
+ghost use Rattle.ip_commands.specs.Files.{IsAfterReading, IsFirstFault, KeepsUnlessWriting};
+ghost use Rattle.ip_commands.specs.Selection.{WritesSelected};
+
+use crate::commands::lists::read_lists;
+use crate::fault::Fault;
+use crate::inputs::Inputs;
+use crate::request::Combination;
+use crate::writing::write_streams;
+use ip_sets::selection::{at_least, common, complement, except, odd, union, v4_ranges, v6_ranges};
+use ip_sets::{AddressList, Operation};
+use range_set_blaze::{Draw, DrawDisjoint};
+use std::alloc::{AllocError, Allocator};
+use std::io::Write;
+
+/// Writes what an operation selects from the lists of files.
+pub(crate) fn write_combination<'a, A: Allocator + Copy, I: Inputs, W: Write>(
+    alloc: A,
+    inputs: &I,
+    combination: Combination<'a>,
+    output: &mut W,
+) -> Result<(), Fault<'a>>
+    ensures answer { OnOk result ((text : List ℕ)
+        × IsCombined (I.bytes inputs.now) combination.entry text
+        × Appends (W.contents output.old) (W.contents output.new) text) }
+    ensures first { IfErr result (IsFirstFault (I.bytes inputs.now)
+        (map (λ name. name.now) combination.entry.files.now)) }
+    ensures keeps { IfErr result (λ fault.
+        KeepsUnlessWriting fault (W.contents output.old) (W.contents output.new)) }
+{
+    let lists = read_lists(alloc, inputs, combination.files)?;
+    write_operation(alloc, output, &lists, combination)?;
+    Ok(())
+}
+
+// Writes what an operation selects from lists. Nothing was written if allocation fails, since all
+// that is needed is allocated before the first write.
+fn write_operation<'a, A: Allocator + Copy, W: Write>(
+    alloc: A,
+    output: &mut W,
+    lists: &[AddressList<A>],
+    combination: Combination<'a>,
+) -> Result<(), Fault<'a>>
+    ensures answer { OnOk result (WritesSelected combination.entry.form combination.entry.families
+        (selected_by combination.entry.operation (map members (map (λ list. list.v4) lists.now)))
+        (selected_by combination.entry.operation (map members (map (λ list. list.v6) lists.now)))
+        (W.contents output.old) (W.contents output.new)) }
+    ensures keeps { IfErr result (λ fault.
+        KeepsUnlessWriting fault (W.contents output.old) (W.contents output.new)) }
+    ensures fault { IfErr result IsAfterReading }
+{
+    let v4 = v4_ranges(alloc, lists)?;
+    let v6 = v6_ranges(alloc, lists)?;
+    match combination.operation {
+        Operation::Union => write_made(output, union(alloc, v4), union(alloc, v6), combination),
+        Operation::Common => write_made(output, common(alloc, v4), common(alloc, v6), combination),
+        Operation::Except => write_made(output, except(alloc, v4), except(alloc, v6), combination),
+        Operation::Odd => write_made(output, odd(alloc, v4), odd(alloc, v6), combination),
+        Operation::AtLeast(k) => {
+            write_made(
+                output,
+                at_least(alloc, v4, k),
+                at_least(alloc, v6, k),
+                combination,
+            )
+        }
+        Operation::Complement => {
+            write_made(
+                output,
+                complement(alloc, v4),
+                complement(alloc, v6),
+                combination,
+            )
+        }
+    }
+}
+
+// Writes the addresses of two ready streams, if both were made.
+fn write_made<'a, W: Write, F: DrawDisjoint<u32>, S: DrawDisjoint<u128>>(
+    output: &mut W,
+    v4: Result<F, AllocError>,
+    v6: Result<S, AllocError>,
+    combination: Combination<'a>,
+) -> Result<(), Fault<'a>>
+    requires v4 { IfOk v4 F.can_draw }
+    requires v6 { IfOk v6 S.can_draw }
+    ensures answer { (these those : Selection)
+        → IfOk v4 (λ stream. F.may_give stream ⊆ AreRuns (2 ^ 32) these)
+        → IfOk v6 (λ stream. S.may_give stream ⊆ AreRuns (2 ^ 128) those)
+        → OnOk result (WritesSelected combination.entry.form combination.entry.families
+        these those (W.contents output.old) (W.contents output.new)) }
+    ensures keeps { IfErr result (λ fault.
+        KeepsUnlessWriting fault (W.contents output.old) (W.contents output.new)) }
+    ensures fault { IfErr result IsAfterReading }
+{
+    write_streams(output, v4?, v6?, combination)?;
+    Ok(())
+}

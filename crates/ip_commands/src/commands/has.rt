@@ -1,0 +1,70 @@
+//! Which lists have an address.
+
+ghost use Rattle.std.specs.Prelude.{◌≡◌, ℕ, IfErr, IfOk, List, OnOk, map};
+ghost use Rattle.std.specs.Io.KnownBytes.{Appends};
+ghost use Rattle.ip_commands.specs.Answer.{IsFound, found_outcome, has_address, names_text, names_with};
+ghost use Rattle.ip_commands.specs.Files.{IsFirstFault, KeepsUnlessWriting, selected};
+
+use crate::commands::Outcome;
+use crate::commands::lists::read_lists;
+use crate::fault::Fault;
+use crate::inputs::Inputs;
+use ip_sets::AddressList;
+use std::alloc::Allocator;
+use std::io::{self, Write};
+use std::net::IpAddr;
+
+/// Writes the names of the files whose lists have an address, each on a line.
+pub(crate) fn write_names<'a, A: Allocator + Copy, I: Inputs, W: Write>(
+    alloc: A,
+    inputs: &I,
+    address: IpAddr,
+    files: &'a [&'a str],
+    output: &mut W,
+) -> Result<Outcome, Fault<'a>>
+    ensures answer { IfOk result (λ outcome. (text : List ℕ) × IsFound (I.bytes inputs.now)
+        address (map (λ name. name.now) files.now) outcome text
+        × Appends (W.contents output.old) (W.contents output.new) text) }
+    ensures first { IfErr result (IsFirstFault (I.bytes inputs.now)
+        (map (λ name. name.now) files.now)) }
+    ensures keeps { IfErr result (λ fault.
+        KeepsUnlessWriting fault (W.contents output.old) (W.contents output.new)) }
+{
+    let lists = read_lists(alloc, inputs, files)?;
+    let outcome = write_names_with(output, address, files, &lists)?;
+    Ok(outcome)
+}
+
+// Writes the names of the files whose lists have an address. The lists are those of the files.
+fn write_names_with<W: Write, A: Allocator>(
+    output: &mut W,
+    address: IpAddr,
+    files: &[&str],
+    lists: &[AddressList<A>],
+) -> io::Result<Outcome>
+    ensures names { OnOk result (Appends (W.contents output.old) (W.contents output.new)
+        (names_text (names_with (has_address address) (map (λ name. name.now) files.now)
+        (map selected lists.now)))) }
+    ensures outcome { IfOk result (λ outcome. outcome ≡ found_outcome
+        (names_with (has_address address) (map (λ name. name.now) files.now)
+        (map selected lists.now))) }
+{
+    let mut outcome = Outcome::InNone;
+    for (file, list) in files.iter().zip(lists) {
+        if has_address(list, address) {
+            writeln!(output, "{file}")?;
+            outcome = Outcome::Done;
+        }
+    }
+    Ok(outcome)
+}
+
+// Returns whether a list has an address.
+fn has_address<A: Allocator>(list: &AddressList<A>, address: IpAddr) -> bool
+    ensures { result ≡ has_address address (selected list.now) }
+{
+    match address {
+        IpAddr::V4(address) => list.v4.contains(address.to_bits()),
+        IpAddr::V6(address) => list.v6.contains(address.to_bits()),
+    }
+}

@@ -1,0 +1,25 @@
+//! Commands on lists of IP addresses: from a command line and files to the text of an answer.
+#![tactic(auto)]
+
+mod arguments;
+mod commands;
+mod fault;
+mod inputs;
+mod laws;
+mod page;
+mod program;
+mod request;
+mod system;
+mod text;
+mod writing;
+
+pub use crate::arguments::Arguments;
+pub use crate::commands::{HELP, Outcome, VERSION, run};
+pub use crate::fault::{Fault, Misuse};
+pub use crate::inputs::Inputs;
+pub use crate::laws::{
+    answer_is_unique, answer_reads_back, output_is_written_again, output_reads_back,
+};
+pub use crate::program::{finish, start};
+pub use crate::request::{Combination, Families, Form, Request};
+pub use crate::system::SystemInputs;

@@ -1,0 +1,72 @@
+//! The program, from its command line and inputs to its output and exit status.
+
+ghost use Rattle.std.specs.Prelude.{◌≡◌, ℕ, IsOk, List, Result, map};
+ghost use Rattle.std.specs.Io.KnownBytes.{Keeps};
+ghost use Rattle.std.specs.Process.{exit_status};
+ghost use Rattle.ip_commands.specs.CommandLine.{AreArguments};
+ghost use Rattle.ip_commands.specs.Fault.{status_after};
+ghost use Rattle.ip_commands.specs.Program.{Ends};
+ghost use Rattle.ip_commands.specs.declared.commands.Outcome.{Outcome};
+ghost use Rattle.ip_commands.specs.declared.fault.Fault.{Fault};
+
+use crate::arguments::Arguments;
+use crate::commands::{Outcome, run};
+use crate::fault::Fault;
+use crate::inputs::Inputs;
+use std::alloc::Allocator;
+use std::convert::AsStr;
+use std::io::Write;
+use std::process::ExitCode;
+
+/// Runs the program on the words after its name, and returns its exit status. It writes a line for
+/// a fault to `errors`.
+pub fn start<A: Allocator + Copy, S: AsStr, I: Inputs, W: Write, E: Write>(
+    alloc: A,
+    words: &[S],
+    inputs: &I,
+    output: &mut W,
+    errors: &mut E,
+) -> ExitCode
+    ensures ends { (end : Result Outcome Fault)
+        × Ends (I.bytes inputs.now) (map S.text words.now) (W.contents output.old)
+        (W.contents output.new) end
+        × (exit_status result ≡ status_after end)
+        × (IsOk end → Keeps (E.contents errors.old) (E.contents errors.new)) }
+{
+    match Arguments::new(alloc, words) {
+        Ok(arguments) => finish(errors, answer(alloc, &arguments, inputs, output)),
+        Err(fault) => finish(errors, Err(fault)),
+    }
+}
+
+// Runs what the arguments ask for.
+fn answer<'s, 'a, A: Allocator + Copy, I: Inputs, W: Write>(
+    alloc: A,
+    arguments: &'s Arguments<'a, A>,
+    inputs: &I,
+    output: &mut W,
+) -> Result<Outcome, Fault<'s>>
+    ensures { (words : List (List ℕ)) → AreArguments words arguments.now
+        → Ends (I.bytes inputs.now) words (W.contents output.old) (W.contents output.new) result }
+{
+    let request = arguments.request()?;
+    let outcome = run(alloc, inputs, request, output)?;
+    output.flush()?;
+    Ok(outcome)
+}
+
+/// Returns the exit status of an outcome, and writes a line for a fault. If that line cannot be
+/// written in full, the status is the same, as there is nowhere left to report it.
+pub fn finish<E: Write>(errors: &mut E, outcome: Result<Outcome, Fault<'_>>) -> ExitCode
+    ensures status { exit_status result ≡ status_after outcome.entry }
+    ensures quiet { IsOk outcome.entry
+        → Keeps (E.contents errors.old) (E.contents errors.new) }
+{
+    match outcome {
+        Ok(outcome) => ExitCode::from(outcome.status()),
+        Err(fault) => {
+            let _ = writeln!(errors, "{fault}");
+            ExitCode::from(fault.status())
+        }
+    }
+}

@@ -1,0 +1,59 @@
+//! What a command line asks for.
+
+use ip_sets::Operation;
+use std::net::IpAddr;
+
+/// How addresses are written.
+#[derive(Clone, Copy, Debug, PartialEq, Eq)]
+pub enum Form {
+    /// As the fewest blocks: `ADDRESS/LENGTH`, or `ADDRESS` for a single address.
+    Blocks,
+    /// As ranges that neither overlap nor touch: `ADDRESS-ADDRESS`.
+    Ranges,
+}
+
+/// Which families of addresses are written.
+#[derive(Clone, Copy, Debug, PartialEq, Eq)]
+pub enum Families {
+    /// IPv4 and IPv6.
+    Both,
+    /// Only IPv4.
+    V4,
+    /// Only IPv6.
+    V6,
+}
+
+/// What an operation selects from the lists of some files. The files are names, and `-` is standard
+/// input.
+#[derive(Clone, Copy, Debug)]
+pub struct Combination<'a> {
+    /// The operation.
+    pub operation: Operation,
+    /// How the addresses are written.
+    pub form: Form,
+    /// Which of them are written.
+    pub families: Families,
+    /// The names of the files.
+    pub files: &'a [&'a str],
+}
+
+/// What a command line asks for.
+#[derive(Clone, Copy, Debug)]
+pub enum Request<'a> {
+    /// How the program is called.
+    Help,
+    /// Its version.
+    Version,
+    /// What an operation selects from lists.
+    Combine(Combination<'a>),
+    /// How many addresses and blocks of each family some list has.
+    Count {
+        families: Families,
+        files: &'a [&'a str],
+    },
+    /// Which lists have an address.
+    Has {
+        address: IpAddr,
+        files: &'a [&'a str],
+    },
+}

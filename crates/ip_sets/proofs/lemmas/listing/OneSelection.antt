@@ -1,0 +1,57 @@
+-- A list selects one set of addresses, or has one first bad line.
+use Rattle.std.proofs.Common.{◌≡◌, ◌∙◌, ℕ, suc, ◌+◌, Bool, true, false, List, [], ◌∷◌, ◌++◌, length, refl, sym, ap, subst}
+use Rattle.std.proofs.lemmas.List.Elements.{All-head, All-tail}
+use Rattle.std.specs.Prelude.{All, IsTrue}
+use Rattle.range_set_blaze.specs.Selection.{Selection}
+use Rattle.ip_sets.specs.List.{AreAddressesOf, IsBadLine, IsFirstBadLine, IsGoodLine, IsListOf}
+
+same_truth : (a b : Bool) → (IsTrue a → IsTrue b) → (IsTrue b → IsTrue a) → a ≡ b
+same_truth true b to from = sym (to refl)
+same_truth false true to from = from refl
+same_truth false false to from = refl
+
+-- Two selections of the addresses of the same lines are the same.
+pub one_selection : (Means : List ℕ → ℕ → ℕ → Type 0) (list : List (List ℕ))
+    (these those : Selection) → AreAddressesOf Means list these
+    → AreAddressesOf Means list those → (number : ℕ) → these number ≡ those number
+one_selection Means list these those are are_too number =
+    same_truth (these number) (those number) (λ h. (are_too number).1 ((are number).0 h))
+    (λ h. (are number).1 ((are_too number).0 h))
+
+-- A list whose lines all have a meaning has no bad line.
+bad_inside : (before : List (List ℕ)) (line : List ℕ) (after : List (List ℕ))
+    → All IsGoodLine (before ++ line ∷ after) → IsBadLine line → ⊥
+bad_inside [] line after good bad =
+    let h = All-head IsGoodLine line after good in bad h.0 h.1
+bad_inside (first ∷ before) line after good bad =
+    bad_inside before line after (All-tail IsGoodLine first (before ++ line ∷ after) good) bad
+
+pub not_both : (bytes : List ℕ) (v4 v6 : Selection) (number : ℕ) → IsListOf bytes v4 v6
+    → ¬ IsFirstBadLine bytes number
+not_both bytes v4 v6 number list h =
+    bad_inside h.before h.line h.after (subst (All IsGoodLine) h.parts list.good) h.bad
+
+-- Two first bad lines have as many lines before them.
+same_place : (before others : List (List ℕ)) (line other : List ℕ) (after rest : List (List ℕ))
+    → before ++ line ∷ after ≡ others ++ other ∷ rest → IsBadLine line → IsBadLine other
+    → All IsGoodLine before → All IsGoodLine others → length before ≡ length others
+same_place [] [] line other after rest same bad bad_too good good_too = refl
+same_place [] (first ∷ others) line other after rest same bad bad_too good good_too =
+    let h = All-head IsGoodLine first others good_too in
+    let is : line ≡ first = cc same in
+    absurd (subst IsBadLine is bad h.0 h.1)
+same_place (first ∷ before) [] line other after rest same bad bad_too good good_too =
+    let h = All-head IsGoodLine first before good in
+    let is : other ≡ first = cc same in
+    absurd (subst IsBadLine is bad_too h.0 h.1)
+same_place (first ∷ before) (second ∷ others) line other after rest same bad bad_too good good_too =
+    let later : before ++ line ∷ after ≡ others ++ other ∷ rest = cc same in
+    ap suc (same_place before others line other after rest later bad bad_too
+    (All-tail IsGoodLine first before good) (All-tail IsGoodLine second others good_too))
+
+pub one_bad_line : (bytes : List ℕ) (number other : ℕ) → IsFirstBadLine bytes number
+    → IsFirstBadLine bytes other → number ≡ other
+one_bad_line bytes number other h k =
+    let same = same_place h.before k.before h.line k.line h.after k.after (sym h.parts ∙ k.parts)
+    h.bad k.bad h.first k.first in
+    h.counted ∙ ap (λ n. n + 1) same ∙ sym k.counted

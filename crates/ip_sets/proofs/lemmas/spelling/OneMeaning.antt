@@ -1,0 +1,147 @@
+-- A line has one meaning at most.
+use Rattle.std.proofs.Common.{◌≡◌, ◌∙◌, ℕ, ◌+◌, ◌-◌, ◌^◌, ◌<◌, true, List, [], ◌∷◌, length, refl, sym, ap, inl, inr, arith, length-append}
+use Rattle.std.proofs.NetLemmas.Ipv6.{IsDotted-not_colon_hex}
+use Rattle.std.proofs.lemmas.Fmt.{decimal_injective}
+use Rattle.std.specs.Net.Grammar.{IsColonHex, IsDotted, IsGroups}
+use Rattle.std.specs.Range.{range_inclusive_start, range_inclusive_end, range_inclusive_exhausted}
+use Rattle.std.specs.declared.ops.RangeInclusive.{RangeInclusive}
+use Rattle.ip_sets.specs.declared.line.Line.{Line}
+use Rattle.ip_sets.specs.declared.line.Line.TheVariants.{Nothing, V4, V6}
+use Rattle.ip_sets.specs.Address.{IsV4, IsV6}
+use Rattle.ip_sets.specs.AddressLaws.{one_v4, one_v6}
+use Rattle.ip_sets.specs.AddressRange.{Spans, WritesOne, WritesBlock, WritesSpan, WritesOneOrBlock, WritesParts, WritesRange, block_size, block_start}
+use Rattle.ip_sets.specs.Line.{IsLine, content}
+use Rattle.ip_sets.specs.LineParts.{parts, trimmed}
+
+-- A range is determined by its ends.
+pub Spans_unique : (range other : RangeInclusive ℕ) (first last start end : ℕ)
+    → Spans range first last → Spans other start end → first ≡ start → last ≡ end → range ≡ other
+Spans_unique range other first last start end h k starts ends =
+    let at_start : range_inclusive_start range ≡ range_inclusive_start other =
+    h.start ∙ starts ∙ sym k.start in
+    let at_end : range_inclusive_end range ≡ range_inclusive_end other =
+    h.end ∙ ends ∙ sym k.end in
+    let fresh : range_inclusive_exhausted range ≡ range_inclusive_exhausted other =
+    h.fresh ∙ sym k.fresh in
+    λ i. record { start = at_start i; end = at_end i; exhausted = fresh i }
+
+-- ---- one range to a text
+
+module _ (bits : ℕ) (small : bits < 2 ^ 32) (IsAddress : List ℕ → ℕ → Type 0)
+    (unique : (text : List ℕ) (m n : ℕ) → IsAddress text m → IsAddress text n → m ≡ n) where
+  one : (text : List ℕ) (a b : RangeInclusive ℕ) → WritesOne IsAddress text a
+      → WritesOne IsAddress text b → a ≡ b
+  one text a b h k =
+      let same = unique text h.address k.address h.written k.written in
+      Spans_unique a b h.address h.address k.address k.address h.one k.one same same
+
+  block : (address_text length_text : List ℕ) (a b : RangeInclusive ℕ)
+      → WritesBlock bits IsAddress address_text length_text a
+      → WritesBlock bits IsAddress address_text length_text b → a ≡ b
+  block address_text length_text a b h k =
+      let address : h.address ≡ k.address =
+      unique address_text h.address k.address h.address_written k.address_written in
+      let short : h.length < 2 ^ 64 = omega (arith, h.within) in
+      let short_too : k.length < 2 ^ 64 = omega (arith, k.within) in
+      let length : h.length ≡ k.length =
+      decimal_injective h.length k.length short short_too
+      (sym h.length_written ∙ k.length_written) in
+      let start : block_start bits h.length h.address ≡ block_start bits k.length k.address =
+      ap (λ n. block_start bits h.length n) address
+      ∙ ap (λ n. block_start bits n k.address) length in
+      let size : block_size bits h.length - 1 ≡ block_size bits k.length - 1 =
+      ap (λ n. block_size bits n - 1) length in
+      Spans_unique a b _ _ _ _ h.block k.block start
+      (ap (λ n. n + (block_size bits h.length - 1)) start
+      ∙ ap (λ n. block_start bits k.length k.address + n) size)
+
+  span : (first_text last_text : List ℕ) (a b : RangeInclusive ℕ)
+      → WritesSpan IsAddress first_text last_text a
+      → WritesSpan IsAddress first_text last_text b → a ≡ b
+  span first_text last_text a b h k =
+      Spans_unique a b h.first h.last k.first k.last h.span k.span
+      (unique (trimmed first_text) h.first k.first h.first_written k.first_written)
+      (unique (trimmed last_text) h.last k.last h.last_written k.last_written)
+
+  one_or_block : (texts : List (List ℕ)) (a b : RangeInclusive ℕ)
+      → WritesOneOrBlock bits IsAddress texts a → WritesOneOrBlock bits IsAddress texts b → a ≡ b
+  one_or_block [] a b h k = absurd h
+  one_or_block (text ∷ []) a b h k = one text a b h k
+  one_or_block (address ∷ length ∷ []) a b h k = block address length a b h k
+  one_or_block (x ∷ y ∷ z ∷ texts) a b h k = absurd h
+
+  in_parts : (texts : List (List ℕ)) (a b : RangeInclusive ℕ)
+      → WritesParts bits IsAddress texts a → WritesParts bits IsAddress texts b → a ≡ b
+  in_parts [] a b h k = absurd h
+  in_parts (text ∷ []) a b h k = one_or_block (parts 47 text) a b h k
+  in_parts (first ∷ last ∷ []) a b h k = span first last a b h k
+  in_parts (x ∷ y ∷ z ∷ texts) a b h k = absurd h
+
+-- ---- one family to a text
+
+module _ (bits more : ℕ) (IsAddress IsOther : List ℕ → ℕ → Type 0)
+    (apart : (text : List ℕ) (m n : ℕ) → IsAddress text m → IsOther text n → ⊥) where
+  apart_one_or_block : (texts : List (List ℕ)) (a b : RangeInclusive ℕ)
+      → WritesOneOrBlock bits IsAddress texts a → WritesOneOrBlock more IsOther texts b → ⊥
+  apart_one_or_block [] a b h k = h
+  apart_one_or_block (text ∷ []) a b h k = apart text h.address k.address h.written k.written
+  apart_one_or_block (address ∷ length ∷ []) a b h k =
+      apart address h.address k.address h.address_written k.address_written
+  apart_one_or_block (x ∷ y ∷ z ∷ texts) a b h k = h
+
+  apart_parts : (texts : List (List ℕ)) (a b : RangeInclusive ℕ)
+      → WritesParts bits IsAddress texts a → WritesParts more IsOther texts b → ⊥
+  apart_parts [] a b h k = h
+  apart_parts (text ∷ []) a b h k = apart_one_or_block (parts 47 text) a b h k
+  apart_parts (first ∷ last ∷ []) a b h k =
+      apart (trimmed first) h.first k.first h.first_written k.first_written
+  apart_parts (x ∷ y ∷ z ∷ texts) a b h k = h
+
+-- An IPv4 address is not an IPv6 address.
+IsV4-not_v6 : (text : List ℕ) (m n : ℕ) → IsV4 text m → IsV6 text n → ⊥
+IsV4-not_v6 text m n h k = IsDotted-not_colon_hex text _ _ h.1 k.1
+
+-- ---- no range to an empty text
+
+dotted_some : (text octets : List ℕ) → IsDotted text octets → 0 < length text
+dotted_some text octets h = omega (arith, simp length-append at (ap length h.spelled))
+
+no_groups : (segments : List ℕ) → IsGroups true [] segments → length segments ≡ 8 → ⊥
+no_groups [] h eight = omega arith
+no_groups (s ∷ segments) (inl h) eight =
+    omega (arith, simp length-append at (ap length h.2), h.3.0.0.0)
+no_groups (s ∷ segments) (inr h) eight =
+    omega (arith, ap length h.3, dotted_some h.0 h.1 h.4)
+
+no_colon_hex : (segments : List ℕ) → IsColonHex [] segments → ⊥
+no_colon_hex segments (inl h) = no_groups segments h.0 h.1
+no_colon_hex segments (inr h) = omega (arith, simp length-append at (ap length h.spelled))
+
+v4_empty : (n : ℕ) → IsV4 [] n → ⊥
+v4_empty n h = omega (arith, dotted_some [] _ h.1)
+
+v6_empty : (n : ℕ) → IsV6 [] n → ⊥
+v6_empty n h = no_colon_hex _ h.1
+
+no_range : (bits : ℕ) (IsAddress : List ℕ → ℕ → Type 0) (text : List ℕ) (range : RangeInclusive ℕ)
+    → ((n : ℕ) → IsAddress [] n → ⊥) → text ≡ [] → WritesRange bits IsAddress text range → ⊥
+no_range bits IsAddress text range empty is h =
+    let none : WritesOne IsAddress [] range = rw is at h in
+    empty none.address none.written
+
+-- ---- one meaning to a line
+
+pub IsLine_unique : (line : List ℕ) (a b : Line) → IsLine line a → IsLine line b → a ≡ b
+IsLine_unique line Nothing Nothing h k = refl
+IsLine_unique line Nothing (V4 b) h k = absurd (no_range 32 IsV4 (content line) b v4_empty h k)
+IsLine_unique line Nothing (V6 b) h k = absurd (no_range 128 IsV6 (content line) b v6_empty h k)
+IsLine_unique line (V4 a) Nothing h k = absurd (no_range 32 IsV4 (content line) a v4_empty k h)
+IsLine_unique line (V4 a) (V4 b) h k =
+    ap V4 (in_parts 32 (omega arith) IsV4 one_v4 (parts 45 (content line)) a b h k)
+IsLine_unique line (V4 a) (V6 b) h k =
+    absurd (apart_parts 32 128 IsV4 IsV6 IsV4-not_v6 (parts 45 (content line)) a b h k)
+IsLine_unique line (V6 a) Nothing h k = absurd (no_range 128 IsV6 (content line) a v6_empty k h)
+IsLine_unique line (V6 a) (V4 b) h k =
+    absurd (apart_parts 32 128 IsV4 IsV6 IsV4-not_v6 (parts 45 (content line)) b a k h)
+IsLine_unique line (V6 a) (V6 b) h k =
+    ap V6 (in_parts 128 (omega arith) IsV6 one_v6 (parts 45 (content line)) a b h k)

@@ -1,0 +1,99 @@
+//! What one line of a list means: nothing, `ADDRESS`, `ADDRESS/LENGTH` or `ADDRESS-ADDRESS`.
+
+ghost use Rattle.std.specs.Prelude.{◌≡◌, ◌<◌, IfSome, length};
+ghost use Rattle.std.specs.List.{position};
+ghost use Rattle.ip_sets.specs.Line.{IsLine, begins_comment, content};
+ghost use Rattle.ip_sets.specs.LineParts.{Reads};
+ghost use Rattle.ip_sets.specs.Plain.{BeginsWithLine};
+
+pub(crate) mod family;
+pub(crate) mod groups;
+pub(crate) mod octets;
+pub(crate) mod parts;
+pub(crate) mod plain;
+pub(crate) mod prefix;
+pub(crate) mod range;
+
+use crate::line::parts::trimmed;
+use crate::line::plain::plain_line;
+use crate::line::range::range;
+use memchr::memchr;
+use std::ops::RangeInclusive;
+
+/// What a line means. A range goes from its first address to its last, as numbers.
+#[derive(Debug, Drop)]
+pub enum Line {
+    /// The line is blank, or has only a comment.
+    Nothing,
+    /// IPv4 addresses.
+    V4(RangeInclusive<u32>),
+    /// IPv6 addresses.
+    V6(RangeInclusive<u128>),
+}
+
+/// Returns what a line means, or `None` if it is bad. It may have a line feed at its end.
+///
+/// White space around it does not count, and so neither does its line ending. The first `#` or `;`
+/// begins a comment. In `ADDRESS/LENGTH`, the bits past the length are cleared. In
+/// `ADDRESS-ADDRESS`, the two are of one family, and the second is not below the first.
+pub fn parse_line(line: &[u8]) -> Option<Line>
+    ensures { Reads result (IsLine line.now) }
+{
+    let text = content(line);
+    if text.is_empty() {
+        return Some(Line::Nothing);
+    }
+    if let Some(addresses) = range::<u32>(text) {
+        return Some(Line::V4(addresses));
+    }
+    let addresses = range::<u128>(text)?;
+    Some(Line::V6(addresses))
+}
+
+/// The first line of some bytes.
+#[derive(Drop)]
+pub(crate) struct FirstLine<'a> {
+    /// What it means, or `None` if it is bad.
+    pub(crate) meaning: Option<Line>,
+    /// The bytes after its line feed.
+    pub(crate) rest: &'a [u8],
+}
+
+/// Returns the first line of the bytes, if they have a line feed.
+#[inline(always)]
+pub(crate) fn first_line(bytes: &[u8]) -> Option<FirstLine<'_>>
+    ensures { IfSome result (λ first. BeginsWithLine (λ line. Reads first.meaning (IsLine line))
+        bytes.now first.rest.now) }
+{
+    // Most lines are plain.
+    if let Some((addresses, rest)) = plain_line::<u32>(bytes) {
+        let meaning = Some(Line::V4(addresses));
+        return Some(FirstLine { meaning, rest });
+    }
+    if let Some((addresses, rest)) = plain_line::<u128>(bytes) {
+        let meaning = Some(Line::V6(addresses));
+        return Some(FirstLine { meaning, rest });
+    }
+    let end = memchr(b'\n', bytes)?;
+    let meaning = parse_line(&bytes[..end]);
+    let rest = &bytes[end + 1..];
+    Some(FirstLine { meaning, rest })
+}
+
+// Returns what the line has before its comment, without the white space around it.
+fn content(line: &[u8]) -> &[u8]
+    ensures { result.now ≡ content line.now }
+{
+    match comment(line) {
+        None => trimmed(line),
+        Some(i) => trimmed(&line[..i]),
+    }
+}
+
+// Returns the place where the comment begins.
+fn comment(line: &[u8]) -> Option<usize>
+    ensures place { result ≡ position begins_comment line.now }
+    ensures within { IfSome result (λ i. i < length line.now) }
+{
+    line.iter().position(|byte| *byte == b'#' || *byte == b';')
+}

@@ -1,0 +1,25 @@
+//! Laws of lists. Each function does nothing, and its clauses are the law.
+
+ghost use Rattle.std.specs.Prelude.{◌≡◌, ◌↔◌, ℕ, List};
+ghost use Rattle.range_set_blaze.specs.Selection.{Selection};
+ghost use Rattle.ip_sets.specs.List.{IsFirstBadLine, IsListOf, contents};
+
+/// A list selects at most one set of addresses of each family, or it has at most one first bad
+/// line, but not both.
+pub fn list_selects_one()
+    ensures v4 { (bytes : List ℕ) (v4 v6 other4 other6 : Selection) (number : ℕ)
+        → IsListOf bytes v4 v6 → IsListOf bytes other4 other6 → v4 number ≡ other4 number }
+    ensures v6 { (bytes : List ℕ) (v4 v6 other4 other6 : Selection) (number : ℕ)
+        → IsListOf bytes v4 v6 → IsListOf bytes other4 other6 → v6 number ≡ other6 number }
+    ensures bad_line { (bytes : List ℕ) (number other : ℕ)
+        → IsFirstBadLine bytes number → IsFirstBadLine bytes other → number ≡ other }
+    ensures not_both { (bytes : List ℕ) (v4 v6 : Selection) (number : ℕ)
+        → IsListOf bytes v4 v6 → ¬ IsFirstBadLine bytes number }
+{}
+
+/// Lists with the same contents select the same addresses: comments, blank lines, and the white
+/// space around addresses do not count.
+pub fn comments_select_nothing()
+    ensures { (bytes other : List ℕ) (v4 v6 : Selection) → contents bytes ≡ contents other
+        → IsListOf bytes v4 v6 → IsListOf other v4 v6 }
+{}

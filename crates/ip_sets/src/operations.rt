@@ -1,0 +1,89 @@
+//! Operations on lists of addresses, for both families.
+
+ghost use Rattle.std.specs.Prelude.{◌^◌, All, IfOk, List, map};
+ghost use Rattle.range_set_blaze.specs.Multiway.{IsMadeOf};
+ghost use Rattle.range_set_blaze.specs.Runs.{AreRuns, Interval, members};
+ghost use Rattle.range_set_blaze.specs.Selection.{Agree, Selection};
+ghost use Rattle.rsb_streams.specs.Stream.{◌⊆◌};
+ghost use Rattle.ip_sets.specs.Operation.{selected_by};
+ghost use Rattle.ip_sets.specs.Selection.{GiveEach};
+
+use crate::blocks::Address;
+use crate::list::AddressList;
+use crate::selection::{at_least, common, complement, except, odd, union, v4_ranges, v6_ranges};
+use crate::set::AddressSet;
+use range_set_blaze::DrawDisjoint;
+use std::alloc::{AllocError, Allocator};
+
+/// What is selected from a number of lists. A list that is given twice counts twice.
+#[derive(Clone, Copy, Debug, PartialEq, Eq)]
+pub enum Operation {
+    /// What at least one list has: nothing if there are no lists.
+    Union,
+    /// What every list has: every address if there are no lists.
+    Common,
+    /// What the first list has and no other: nothing if there are no lists.
+    Except,
+    /// What an odd number of lists have: nothing if there are no lists.
+    Odd,
+    /// What at least the given number of lists have: every address if the number is 0, and nothing
+    /// if there are fewer lists.
+    AtLeast(usize),
+    /// What no list has: every address if there are no lists.
+    Complement,
+}
+
+/// Returns what an operation selects from the lists, in each family. If allocation fails, no list
+/// is made.
+pub fn combine<A: Allocator + Copy>(
+    alloc: A,
+    operation: Operation,
+    lists: &[AddressList<A>],
+) -> Result<AddressList<A>, AllocError>
+    ensures v4 { IfOk result (λ list. IsMadeOf (2 ^ 32) (selected_by operation)
+        (map (λ list. list.v4) lists.now) list.v4) }
+    ensures v6 { IfOk result (λ list. IsMadeOf (2 ^ 128) (selected_by operation)
+        (map (λ list. list.v6) lists.now) list.v6) }
+{
+    let v4_streams = v4_ranges(alloc, lists)?;
+    let v6_streams = v6_ranges(alloc, lists)?;
+    let v4 = combined(alloc, operation, v4_streams)?;
+    let v6 = combined(alloc, operation, v6_streams)?;
+    Ok(AddressList { v4, v6 })
+}
+
+// Returns what an operation selects from ready streams of the addresses of one family.
+fn combined<T: Address, I: DrawDisjoint<T>, A: Allocator + Copy>(
+    alloc: A,
+    operation: Operation,
+    streams: Vec<I, A>,
+) -> Result<AddressSet<T, A>, AllocError>
+    requires { All I.can_draw streams.items }
+    ensures { (sets : List (List Interval)) → GiveEach I.may_give streams.items sets
+        → IfOk result (λ set. IsMadeOf T.value_count (selected_by operation) sets set) }
+{
+    match operation {
+        Operation::Union => collected(alloc, union(alloc, streams)),
+        Operation::Common => collected(alloc, common(alloc, streams)),
+        Operation::Except => collected(alloc, except(alloc, streams)),
+        Operation::Odd => collected(alloc, odd(alloc, streams)),
+        Operation::AtLeast(k) => collected(alloc, at_least(alloc, streams, k)),
+        Operation::Complement => collected(alloc, complement(alloc, streams)),
+    }
+}
+
+// Returns the set of the addresses of a ready stream, if it was made.
+fn collected<T: Address, I: DrawDisjoint<T>, A: Allocator>(
+    alloc: A,
+    made: Result<I, AllocError>,
+) -> Result<AddressSet<T, A>, AllocError>
+    requires { IfOk made I.can_draw }
+    ensures { (selected : Selection)
+        → IfOk made (λ stream. I.may_give stream ⊆ AreRuns T.value_count selected)
+        → IfOk result (λ set. Agree T.value_count (members set) selected) }
+{
+    match made {
+        Ok(ranges) => AddressSet::from_ranges(alloc, ranges),
+        Err(error) => Err(error),
+    }
+}

@@ -1,8 +1,0 @@
-use Rattle.std.proofs.Common.{w32}
-use Rattle.rsb_integer.specs.Rank.{signed_rank}
-use Rattle.range_set_blaze.specs.BothEnds.{ListedReadyBack}
-use Rattle.range_set_blaze_query_tests.proofs.set.elements.gives.Given as goal
-
--- The elements that are left are ready at both ends.
-abbrev pub invariant-loop-end : goal.invariant-loop-end
-invariant-loop-end l = ListedReadyBack (signed_rank w32) 4294967296 l.elements

@@ -1,6 +1,0 @@
-//! Tests of queries of sets, their iterators, their text and std's traits, by the public names of the
-//! libraries. `range_set_blaze_tests` has those of changes and of new sets.
-#![tactic(auto)]
-
-#[cfg(test)]
-mod set;

@@ -1,6 +1,0 @@
--- The calls starting at the first day of the year return all weekends.
-use Rattle.rsb_commands.proofs.lemmas.streaming.Weekends.{gives-weekends}
-use Rattle.rsb_commands.proofs.outside.ordinal_weekends.OrdinalWeekends.new.Goals as goal
-
-pub returns-clause-gives : goal.returns-clause-gives
-returns-clause-gives c = gives-weekends

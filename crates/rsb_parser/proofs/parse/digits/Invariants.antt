@@ -1,6 +1,0 @@
-use Rattle.std.proofs.Common.{◌^◌, ◌<◌}
-use Rattle.rsb_parser.proofs.lemmas.reading.Numbers.{HasDigits}
-use Rattle.rsb_parser.proofs.parse.digits.Given as goal
-
-abbrev pub invariant-loop-digit : goal.invariant-loop-digit
-invariant-loop-digit l = HasDigits l.digits l.digit-index l.value × (l.value < 2 ^ 32)

@@ -1,6 +1,0 @@
-use Rattle.std.proofs.Common.{◌∙◌}
-use Rattle.rsb_runs.proofs.lemmas.elements.Ranges.{intervals_of-ranges}
-use Rattle.rsb_runs.proofs.runs.Runs.ranges.Goals as goal
-
-pub returns : goal.returns
-returns g c = intervals_of-ranges g.T.Integer.rank c.iter.result ∙ c.iter.ensures.runs

@@ -1,5 +1,0 @@
-use Rattle.rsb_tables.proofs.tables.gives.Given as goal
-
--- The stream is ready.
-abbrev pub invariant-loop-pair : goal.invariant-loop-pair
-invariant-loop-pair g l = g.I.Draw.can_draw l.stream

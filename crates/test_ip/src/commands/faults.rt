@@ -1,0 +1,218 @@
+//! What each fault is reported as, worked out by hand.
+
+use crate::commands::answers::FILES;
+use crate::commands::ends::{Filling, Held};
+use ip_commands::start;
+use std::alloc::Global;
+use std::process::ExitCode;
+
+/// A command line, its exit status, and the line that it reports.
+type Row = (&'static [&'static str], u8, &'static str);
+
+/// Commands with a fault.
+static ROWS: [Row; 24] = [
+    (
+        &["union", "a", "bad", "none"],
+        2,
+        "bad:2: no address, block or range\n",
+    ),
+    (
+        &["has", "10.0.0.1", "a", "bad"],
+        2,
+        "bad:2: no address, block or range\n",
+    ),
+    (&["count", "bad"], 2, "bad:2: no address, block or range\n"),
+    (
+        &["union", "a", "none", "bad"],
+        4,
+        "none: entity not found\n",
+    ),
+    (&[], 64, "ip_lists: no command\n"),
+    (&["-4"], 64, "ip_lists: no command\n"),
+    (&["unite", "a"], 64, "ip_lists: unknown command: unite\n"),
+    (&["union", "-5", "a"], 64, "ip_lists: unknown option: -5\n"),
+    (
+        &["union", "--range", "a"],
+        64,
+        "ip_lists: unknown option: --range\n",
+    ),
+    (
+        &["union"],
+        64,
+        "ip_lists: too few words after the command\n",
+    ),
+    (
+        &["except", "a"],
+        64,
+        "ip_lists: too few words after the command\n",
+    ),
+    (
+        &["at-least", "2"],
+        64,
+        "ip_lists: too few words after the command\n",
+    ),
+    (
+        &["at-least", "two", "a"],
+        64,
+        "ip_lists: no number of lists: two\n",
+    ),
+    (
+        &["at-least", "two"],
+        64,
+        "ip_lists: too few words after the command\n",
+    ),
+    (
+        &["at-least", "--", "-1", "a"],
+        64,
+        "ip_lists: no number of lists: -1\n",
+    ),
+    (
+        &["at-least", "18446744073709551616", "a"],
+        64,
+        "ip_lists: no number of lists: 18446744073709551616\n",
+    ),
+    (&["has"], 64, "ip_lists: too few words after the command\n"),
+    (
+        &["has", "10.0.0.1"],
+        64,
+        "ip_lists: too few words after the command\n",
+    ),
+    (
+        &["has", "10.0.0.0/8", "a"],
+        64,
+        "ip_lists: no address: 10.0.0.0/8\n",
+    ),
+    (
+        &["count"],
+        64,
+        "ip_lists: too few words after the command\n",
+    ),
+    (&["--", "-4", "a"], 64, "ip_lists: unknown command: -4\n"),
+    (&["-"], 64, "ip_lists: unknown command: -\n"),
+    (
+        &["--help", "-x", "unite", "-y"],
+        64,
+        "ip_lists: unknown option: -x\n",
+    ),
+    (&["--", "--help"], 64, "ip_lists: unknown command: --help\n"),
+];
+
+/// Whether the program ends with this status and this line, and writes nothing else.
+fn reports(alloc: Global, row: &Row) -> bool {
+    let inputs = Held {
+        alloc,
+        files: &FILES,
+        good: usize::MAX,
+    };
+    let mut output = Vec::new(alloc);
+    let mut errors = Vec::new(alloc);
+    let code = start(alloc, row.0, &inputs, &mut output, &mut errors);
+    code == ExitCode::from(row.1) && output.is_empty() && errors.as_slice() == row.2.as_bytes()
+}
+
+#[test]
+fn each_fault_is_reported(rt: HostRuntime) {
+    for row in &ROWS {
+        assert!(rt; reports(rt.alloc(), row), "{:?}", row.0);
+    }
+}
+
+/// Whether a read of `a` that fails after the given number of bytes is reported, and nothing is
+/// written.
+fn read_fails(alloc: Global, good: usize) -> bool {
+    let inputs = Held {
+        alloc,
+        files: &FILES,
+        good,
+    };
+    let words: &[&str] = &["union", "a", "bad"];
+    let mut output = Vec::new(alloc);
+    let mut errors = Vec::new(alloc);
+    let code = start(alloc, words, &inputs, &mut output, &mut errors);
+    code == ExitCode::from(4)
+        && output.is_empty()
+        && errors.as_slice() == b"a: timed out\n".as_slice()
+}
+
+#[test]
+fn each_read_fails_in_turn(rt: HostRuntime) {
+    for good in 0..FILES[0].1.len() {
+        assert!(rt; read_fails(rt.alloc(), good), "after {good} bytes");
+    }
+}
+
+/// Command lines, and what each of them writes.
+static WRITTEN: [(&[&str], &[u8]); 4] = [
+    (
+        &["union", "a", "b"],
+        b"10.0.0.0/29\n2001:db8::/127\n2001:db8::2\n",
+    ),
+    (
+        &["union", "--ranges", "a", "b"],
+        b"10.0.0.0-10.0.0.7\n2001:db8::-2001:db8::2\n",
+    ),
+    (
+        &["count", "a", "b"],
+        b"IPv4 addresses: 8, blocks: 1\nIPv6 addresses: 3, blocks: 2\n",
+    ),
+    (&["has", "10.0.0.6", "a", "b"], b"a\nb\n"),
+];
+
+/// Whether a write that fails after the given number of bytes is reported, and what came before it
+/// is written.
+fn write_fails(alloc: Global, words: &[&str], written: &[u8], room: usize) -> bool {
+    let inputs = Held {
+        alloc,
+        files: &FILES,
+        good: usize::MAX,
+    };
+    let mut output = Filling {
+        taken: Vec::new(alloc),
+        room,
+    };
+    let mut errors = Vec::new(alloc);
+    let code = start(alloc, words, &inputs, &mut output, &mut errors);
+    code == ExitCode::from(4)
+        && output.taken.len() == room
+        && written.starts_with(&output.taken)
+        && errors.as_slice() == b"output: no storage space\n".as_slice()
+}
+
+/// Whether each write of a command fails as it should.
+fn writes_fail(alloc: Global, words: &[&str], written: &[u8]) -> bool {
+    for room in 0..written.len() {
+        if !write_fails(alloc, words, written, room) {
+            return false;
+        }
+    }
+    true
+}
+
+#[test]
+fn each_write_fails_in_turn(rt: HostRuntime) {
+    for (words, written) in &WRITTEN {
+        assert!(rt; writes_fail(rt.alloc(), *words, *written), "{words:?}");
+    }
+}
+
+/// Whether the status is the same if the line of a fault cannot be written.
+fn status_is_kept(alloc: Global) -> bool {
+    let inputs = Held {
+        alloc,
+        files: &FILES,
+        good: usize::MAX,
+    };
+    let words: &[&str] = &["union", "bad"];
+    let mut output = Vec::new(alloc);
+    let mut errors = Filling {
+        taken: Vec::new(alloc),
+        room: 3,
+    };
+    let code = start(alloc, words, &inputs, &mut output, &mut errors);
+    code == ExitCode::from(2) && output.is_empty() && errors.taken.as_slice() == b"bad".as_slice()
+}
+
+#[test]
+fn an_unreported_fault_keeps_its_status(rt: HostRuntime) {
+    assert!(rt; status_is_kept(rt.alloc()));
+}

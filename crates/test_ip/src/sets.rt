@@ -1,0 +1,15 @@
+//! Tests of lists of addresses.
+
+mod address_set;
+mod blocks;
+mod laws;
+mod lines;
+mod lists;
+mod long_lines;
+mod many_lines;
+mod many_lists;
+mod many_runs;
+mod operations;
+mod refusals;
+mod selections;
+mod text;

@@ -1,0 +1,10 @@
+use Rattle.std.proofs.Common.{rules, subst, sym}
+use Rattle.test_streams.proofs.streams.std_markers.passing.Goals as goal
+
+-- `next` of the inner stream is its `draw`.
+pub returns : goal.returns
+returns g c = record {
+  source = subst g.I.Draw.can_draw (sym c.filter.ensures.source) c.requires.stream;
+  closure = search rules;
+  drawn = g.met.I.SortedStarts.drawn;
+}
