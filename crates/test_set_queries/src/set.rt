@@ -1,5 +1,6 @@
 //! Tests of sets, by subject.
 
+mod beside_num_traits;
 mod element_types;
 mod elements;
 mod empty_sets;
