@@ -1,7 +1,7 @@
 """Checks of the text of pages, which take no time.
 
-Links lead to files and headings that exist, names of files are names of files, each decision is cited from what it
-explains, and no sentence is longer than 40 words.
+Links lead to files and headings that exist, each decision is cited from what it explains, and no sentence is longer
+than 40 words. page_names.py checks the names.
 """
 import re
 import subprocess
@@ -11,9 +11,6 @@ ROOT = Path(__file__).resolve().parent.parent
 DECISIONS = "docs/DECISIONS.md"
 LONGEST = 40
 
-# The crate of a reader, which the repository does not have.
-OF_READER = "crates/app"
-
 # How a sentence begins that may be longer.
 MAY_BE_LONG = ("For every element type that keeps the laws of `Integer`, each set after",)
 
@@ -21,9 +18,6 @@ FENCED = re.compile(r"^ *```.*?^ *```$", re.M | re.S)
 COMMENT = re.compile(r"<!--.*?-->", re.S)
 LINK = re.compile(r"\[[^\]]*\]\(([^)\s]+)\)")
 CODE = re.compile(r"`([^`]+)`")
-FILE = re.compile(r"^[\w.*-]+(/[\w.*-]+)+$")
-SUFFIXES = {".antt", ".cpp", ".edit", ".h", ".hpp", ".md", ".py", ".rs", ".rt", ".txt"}
-FOLDERS = {".ci", "bench", "crates", "docs", "examples", "include", "python", "rust", "tools"}
 END_OF_SENTENCE = re.compile(r"(?<=[.!?])[\"”')]*\s+(?=[\"“'(`*\[]*[A-Z0-9`])")
 ROW = re.compile(r"^\| ([a-z0-9-]+) \|", re.M)
 
@@ -35,8 +29,11 @@ def tracked_files():
 
 
 def prose_of(page):
-    """The text of a page without its blocks of code and its comments."""
-    return COMMENT.sub("", FENCED.sub("", page.read_text()))
+    """The text of a page without its blocks of code and its comments, on the same lines."""
+    text = page.read_text()
+    for left_out in (FENCED, COMMENT):
+        text = left_out.sub(lambda found: "\n" * found.group().count("\n"), text)
+    return text
 
 
 def anchors_of(page):
@@ -54,21 +51,6 @@ def broken_links(page):
         file = (page.parent / name).resolve() if name else page
         if not file.exists() or (anchor and file.suffix == ".md" and anchor not in anchors_of(file)):
             yield f"the link {target} leads nowhere"
-
-
-def is_named(name, files):
-    """Whether a name, which may leave out its first folders and have `*` in it, is that of a file or of a folder."""
-    pattern = re.compile("(^|/)" + re.escape(name.rstrip("/")).replace(r"\*", "[^/]*") + "($|/)")
-    return any(pattern.search(file) for file in files)
-
-
-def missing_files(page, files):
-    """The names of files in a page that no file has."""
-    for name in CODE.findall(prose_of(page)):
-        looks_like_one = Path(name).suffix in SUFFIXES or name.split("/")[0] in FOLDERS
-        elsewhere = name.startswith(OF_READER) or "/out/" in name or name.startswith("out/")
-        if FILE.match(name) and looks_like_one and not elsewhere and not is_named(name, files):
-            yield f"no file is named {name}"
 
 
 def uncited_decisions(files):
@@ -104,7 +86,7 @@ def faults(pages):
     files = tracked_files()
     for page in pages:
         name = page.relative_to(ROOT)
-        found = [*broken_links(page), *missing_files(page, files), *long_sentences(page)]
+        found = [*broken_links(page), *long_sentences(page)]
         yield from (f"{name}: {fault}" for fault in found)
         if str(name) == DECISIONS:
             yield from (f"{name}: {fault}" for fault in uncited_decisions(files))

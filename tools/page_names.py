@@ -1,0 +1,289 @@
+"""Checks of the names in pages, which take no time.
+
+Paths: a name of a file or a folder in back ticks is relative to the root, to `crates/`, to the folder or the `src/` of a
+crate that a heading above it names, or, if it is a test's, to the `src/` of a test crate. A file name without a folder
+is that of a file in such a crate, or anywhere if no heading names a crate.
+
+Clauses: PROVED.md names calls and, after a colon, labels of their clauses. Each label is one of a clause of such a call,
+a ghost member or a call of such a type or trait, a trait that it implements, or a field of a record that the clauses
+cite. What is in parentheses is looked for only as a word.
+
+Definitions: a list of MODEL.md begins with their module. A name before the colon of an item is defined in that module,
+or in one that the item names in parentheses.
+
+Crates: ARCHITECTURE.md's first table has each crate of crates.txt with what it uses, its picture has each crate, and a
+heading or a paragraph describes it. A crate with lemmas has a heading in PROOFS.md with each subject, and the others are
+named there.
+"""
+import re
+from functools import lru_cache
+from pathlib import Path
+
+import page_text
+import source_names
+
+ROOT = Path(__file__).resolve().parent.parent
+CRATES = ROOT / "crates"
+
+CODE = re.compile(r"`([^`]+)`")
+PARENTHESES = re.compile(r"\([^()]*\)")
+HEADING = re.compile(r"^(#+) (.*)$")
+PATH = re.compile(r"^[\w.*-]+(/[\w.*-]+)*/?$")
+SUFFIXES = {".antt", ".cpp", ".edit", ".h", ".hpp", ".md", ".py", ".rs", ".rt", ".txt"}
+BARE_SUFFIXES = {".antt", ".edit", ".rt"}
+FOLDERS = {".ci", "bench", "crates", "docs", "examples", "include", "python", "rust", "tools"}
+PARTS = {"src", "specs", "proofs", "must-fail", "mutants"}
+# Folders that every library has.
+PARTS_OF_ALL = {"src/", "specs/", "proofs/", "proofs/lemmas/", "lemmas/"}
+# The crate of a reader, and what builds make, which the repository does not have.
+ELSEWHERE = re.compile(r"^crates/app\b|(^|/)out/")
+MODULE = re.compile(r"`Rattle\.(\w+)\.specs\.(\w+)`")
+CALL = re.compile(r"^&?[^\W\d]\w*(::[^\W\d]\w*)*$")
+NAME = re.compile(r"^[^\W\d]\w*(-\w+)*$")
+
+
+def sections(text):
+    """Each line of a page without code, with the crates that the headings above it name."""
+    headings = {}
+    for number, line in enumerate(text.splitlines(), 1):
+        heading = HEADING.match(line)
+        if heading:
+            level = len(heading.group(1))
+            headings = {it: names for it, names in headings.items() if it < level}
+            headings[level] = [it for it in CODE.findall(heading.group(2)) if it in source_names.uses()]
+        yield number, line, [crate for names in headings.values() for crate in names]
+
+
+# ---- paths
+
+
+def is_path(name):
+    """Whether a text in back ticks is the name of a file or a folder of the repository."""
+    first = name.split("/")[0]
+    if not PATH.match(name) or ELSEWHERE.search(name) or name in PARTS_OF_ALL:
+        return False
+    if "/" not in name:
+        return Path(name).suffix in BARE_SUFFIXES
+    return Path(name).suffix in SUFFIXES or first in FOLDERS | PARTS | set(source_names.uses()) or name.endswith("/")
+
+
+@lru_cache(maxsize=None)
+def is_there(name, crates):
+    """Whether a path is that of a file or a folder, below headings that name some crates."""
+    name = name.replace("NAME", "*")
+    homes = [CRATES / crate for crate in crates]
+    if "/" not in name:
+        return any(any(home.rglob(name)) for home in homes or [CRATES])
+    tests = list(CRATES.glob("test_*/src"))
+    starts = [ROOT, CRATES, *homes, *(home / "src" for home in homes), *tests]
+    return any(any(start.glob(name.rstrip("/"))) for start in starts)
+
+
+def missing_paths(text):
+    """The paths in a page that lead nowhere."""
+    for number, line, crates in sections(text):
+        for name in CODE.findall(line):
+            if is_path(name) and not is_there(name, tuple(crates)):
+                yield f"{number}: no file or folder is {name}"
+
+
+# ---- clauses
+
+
+def owners(name, crates):
+    """The members that the name of a call, a type, a trait or a module stands for: those of the crates of the section,
+    and of the crates below if these have none."""
+    *path, last = name.lstrip("&").split("::")
+    if last[:1].isupper() or not source_names.members().get(last):
+        found = [it for it in all_members() if last in it.around | {it.path.stem}]
+        near = source_names.with_those_below(crates)
+    else:
+        found = source_names.members()[last]
+        near = crates if any(it.crate in crates for it in found) else source_names.with_those_below(crates)
+    return [it for it in found if it.crate in near and (not path or is_in(it, path[-1], last))]
+
+
+def all_members():
+    """The members of all crates."""
+    return [member for many in source_names.members().values() for member in many]
+
+
+def is_in(member, place, name):
+    """Whether a member is of a type, a trait, a module or a crate of that name, or re-exported there."""
+    return place in member.around | {member.crate, member.path.stem} or name in source_names.exported(place)
+
+
+def labels_of(name, crates):
+    """The labels that a call, a type, a trait, a module or a definition may have, or None if there is none such."""
+    found = owners(name, crates)
+    places = source_names.definitions().get(name, [])
+    if not found and not places:
+        return None
+    known = {fact for place in places for fact in source_names.facts_of(*place, name)}
+    for member in found:
+        known |= member.labels | member.around | {member.name} | source_names.facts(member)
+    return known
+
+
+@lru_cache(maxsize=None)
+def labels_in(crates):
+    """The labels of all calls of some crates."""
+    found = [it for it in all_members() if it.crate in crates]
+    return {label for member in found for label in member.labels | source_names.facts(member)}
+
+
+def segments(cell):
+    """The calls and the labels of each part of a cell, and what is in its parentheses."""
+    for part in cell.split(";"):
+        inner = [name for text in PARENTHESES.findall(part) for name in CODE.findall(text)]
+        calls, _, labels = PARENTHESES.sub("", part).partition(": ")
+        # "All calls except .." are not named.
+        yield [] if " except " in calls else CODE.findall(calls), CODE.findall(labels), inner
+
+
+def cells_of_contracts(text):
+    """The last cell of each row of PROVED.md's tables of contracts, with the crates of its section."""
+    for number, line, crates in sections(text):
+        if line.startswith("|") and not re.match(r"\|[-|\s]*$|.*\| Contracts \|$", line):
+            yield number, re.split(r"(?<!\\)\|", line)[-2], crates or list(source_names.uses())
+
+
+def wrong_names(calls, labels, inner, crates):
+    """The calls and labels of a part of a cell that no source has."""
+    calls = [name for name in calls if CALL.match(name) and not is_path(name)]
+    for name in [*inner, *calls]:
+        if CALL.match(name) and name.lstrip("&").split("::")[-1] not in source_names.words():
+            yield f"no source has {name}"
+    if not labels:
+        return
+    known = [labels_of(name, crates) for name in calls]
+    yield from (f"no call is {name}" for name, found in zip(calls, known) if found is None)
+    every = set().union(*(found or set() for found in known)) if calls else labels_in(tuple(crates))
+    for label in labels:
+        if NAME.match(label) and label not in every:
+            yield f"{label} is no label of {', '.join(calls) or 'a call of the section'}"
+
+
+def wrong_labels(text):
+    """The calls and labels of PROVED.md that no source has."""
+    for number, cell, crates in cells_of_contracts(text):
+        for part in segments(cell):
+            yield from (f"{number}: {fault}" for fault in wrong_names(*part, crates))
+
+
+# ---- definitions
+
+
+def lead_of(item):
+    """What an item of a list has before its colon, and the modules in parentheses in it, with short ones as they are."""
+    lead = re.split(r":(?= |$)(?![^()]*\))", item)[0]
+    inner = " ".join(PARENTHESES.findall(lead))
+    return [name.split()[0] for name in CODE.findall(PARENTHESES.sub("", lead))], CODE.findall(inner)
+
+
+def place_of(name, places):
+    """The crate and the module of a name such as `Rattle.rsb_many.specs.Many`, or `Many` for one named before."""
+    found = re.match(r"Rattle\.(\w+)\.specs\.(\w+)$", name)
+    return found.groups() if found else places.get(name)
+
+
+def undefined_names(item, current, places):
+    """The names in the lead of an item of MODEL.md that its modules do not define."""
+    names, inner = lead_of(item)
+    here = [place for place in [current, *(place_of(name, places) for name in inner)] if place]
+    defined = set().union(*((source_names.module(*place) or [{}])[0] for place in here))
+    for name in names:
+        if NAME.match(name) and here and name not in defined:
+            yield f"{name} is not defined in {' or '.join('.'.join(place) for place in here)}"
+
+
+def wrong_modules(text):
+    """The definitions of MODEL.md that are not in their modules, and the names there that no source has."""
+    current, places = None, {}
+    for number, line, _ in sections(text):
+        for name in CODE.findall(line):
+            place = place_of(name, {})
+            if place and place[0] != "std":
+                places[place[1]] = place
+                if not source_names.module(*place):
+                    yield f"{number}: there is no module {name}"
+        if line.startswith("`Rattle."):
+            current = place_of(CODE.findall(line)[0], {})
+        elif line and not line.startswith("- "):
+            current = None
+        elif line.startswith("- "):
+            yield from (f"{number}: {fault}" for fault in undefined_names(line, current, places))
+        for name in CODE.findall(line):
+            word = name.split()[0]
+            if NAME.match(word) and len(word) > 2 and word not in source_names.words():
+                yield f"{number}: no source has {word}"
+
+
+# ---- crates
+
+
+def rows_of_crates(text):
+    """The rows of ARCHITECTURE.md's first table: each crate with what it uses."""
+    rows = re.findall(r"^\| `(\w+)` \|(?:.*)\|([^|]*)\|$", text, re.M)
+    return {crate: CODE.findall(used) for crate, used in rows}
+
+
+def wrong_architecture(whole, text):
+    """The crates that ARCHITECTURE.md lacks or has with other uses, and the modules that no crate has."""
+    rows = rows_of_crates(text)
+    picture = re.search(r"^```text\n(.*?)^```$", whole, re.M | re.S).group(1)
+    described = set(CODE.findall(text.partition("\n## The crates\n")[2]))
+    for crate, used in source_names.uses().items():
+        if rows.get(crate) != used:
+            yield f"the table has {crate} with {rows.get(crate)}, and crates.txt with {used}"
+        if not re.search(rf"\b{crate}\b", picture):
+            yield f"the picture lacks {crate}"
+        if crate not in described:
+            yield f"no part describes {crate}"
+    yield from (f"no crate is {crate}" for crate in rows if crate not in source_names.uses())
+    for number, line, crates in sections(text):
+        if crates and re.match(r"- (`[a-z]\w*`(, | and )?)+: ", line):
+            for name in lead_of(line)[0]:
+                if not is_there(f"{name}.rt", tuple(crates)):
+                    yield f"{number}: no module is {name}"
+
+
+def subjects_of(crate):
+    """The subjects of the lemmas of a crate: the folders and files of `proofs/lemmas`."""
+    return {path.stem for path in (CRATES / crate / "proofs" / "lemmas").glob("*.antt")}
+
+
+def wrong_proofs(text):
+    """The crates and subjects of lemmas that PROOFS.md lacks, and the subjects there that no crate has."""
+    listed = {}
+    for number, line, crates in sections(text):
+        names = lead_of(line)[0] if line.startswith("- ") else []
+        for crate in crates:
+            listed.setdefault(crate, set()).update(names)
+        known = set().union(*map(subjects_of, crates))
+        yield from (f"{number}: no subject is {name}" for name in names if crates and name not in known)
+    for crate in source_names.uses():
+        if crate not in CODE.findall(text):
+            yield f"{crate} is not named"
+        for name in sorted(subjects_of(crate) - listed.get(crate, set())):
+            yield f"the subject {name} of {crate} is not listed"
+
+
+def faults_of(page):
+    """What is wrong in the names of a page."""
+    text = page_text.prose_of(page)
+    yield from missing_paths(text)
+    if page.name == "PROVED.md":
+        yield from wrong_labels(text)
+    if page.name == "MODEL.md":
+        yield from wrong_modules(text)
+    if page.name == "ARCHITECTURE.md":
+        yield from wrong_architecture(page.read_text(), text)
+    if page.name == "PROOFS.md":
+        yield from wrong_proofs(text)
+
+
+def faults(pages):
+    """What is wrong in the names of the pages, each after the page's name."""
+    for page in pages:
+        yield from (f"{page.relative_to(ROOT)}: {fault}" for fault in faults_of(page))

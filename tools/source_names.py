@@ -1,0 +1,205 @@
+"""What the crates name: their functions and ghost members with the labels of their clauses, and the definitions of
+their specs with their fields. It reads the layout that `rt fmt` leaves.
+"""
+import re
+from dataclasses import dataclass, field
+from functools import lru_cache
+from pathlib import Path
+
+ROOT = Path(__file__).resolve().parent.parent
+CRATES = ROOT / "crates"
+
+WORD = re.compile(r"[^\W\d]\w*(?:-\w+)*")
+AROUND = re.compile(r"(?:pub(?:\(\w+\))? )?(?:unsafe )?(?:impl|trait)\b")
+MEMBER = re.compile(r' *(?:pub(?:\(\w+\))? )?(?:(?:const|final|unsafe|extern "C") )*(?:fn|ghost) (?!use )(\w+)')
+LABEL = re.compile(r"\b(?:ensures|requires)\s+(\w+)\s*\{")
+DEFINITION = re.compile(r" *(?:(?:abbrev|unfoldable|pub|settled) )+(record |data )?([^\W\d]\w*(?:-\w+)*)")
+FIELD = re.compile(r" +(?:pub )?(\w+(?:, \w+)*) :")
+IMPORT = re.compile(r"use Rattle\.(\w+)\.specs\.(\w+)\.\{([^}]*)\}")
+EXPORT = re.compile(r"^pub use Rattle\.(\w+)\.specs\.(\w+)(?: as (\w+))?$", re.M)
+
+
+@dataclass
+class Member:
+    """A function, ghost member or `impl`: its name, its file, the type and the trait that it is of, and its text."""
+
+    name: str
+    path: Path
+    around: set
+    text: str = ""
+
+    @property
+    def crate(self):
+        return self.path.relative_to(CRATES).parts[0]
+
+    @property
+    def labels(self):
+        return set(LABEL.findall(self.text))
+
+
+@dataclass
+class Definition:
+    """A definition of a module of specs: the fields or cases that it has, and the words in it."""
+
+    fields: set = field(default_factory=set)
+    words: set = field(default_factory=set)
+
+
+@lru_cache(maxsize=None)
+def uses():
+    """Each crate of crates.txt, in its order, with what it uses."""
+    rows = re.findall(r"^(\w+)(?: staticlib)?:(.*)$", (ROOT / "crates.txt").read_text(), re.M)
+    return {crate: used.split() for crate, used in rows}
+
+
+def with_those_below(crates):
+    """Some crates, and the crates of this repository that they use, directly or not."""
+    found, todo = set(), list(crates)
+    while todo:
+        crate = todo.pop()
+        if crate in uses() and crate not in found:
+            found.add(crate)
+            todo += uses()[crate]
+    return found
+
+
+def without_generics(text):
+    """A text without what is between angle brackets."""
+    while "<" in text:
+        shorter = re.sub(r"<[^<>]*>", "", text)
+        if shorter == text:
+            break
+        text = shorter
+    return text
+
+
+def type_and_trait(lines):
+    """The type and the trait of an `impl`, or the trait that is declared, whose first line comes first."""
+    head = ""
+    for line in lines:
+        head += " " + line
+        if line.endswith(("{", "{}")) or " where" in line:
+            break
+    head = without_generics(head.replace("->", "")).partition(" where")[0]
+    words = re.sub(r"\b(pub|unsafe|impl|trait|mut)\b|'\w+|\(crate\)", " ", head).partition(":")[0] if "trait " in head else head
+    words = re.sub(r"\b(pub|unsafe|impl|trait|mut|dyn)\b|'\w+|\w+::|\(crate\)", " ", words)
+    return {WORD.search(part).group() for part in words.split(" for ") if WORD.search(part)}
+
+
+def members_of_file(path):
+    """The functions, ghost members and `impl`s of a source file."""
+    found, around, lines = [], set(), path.read_text().splitlines()
+    for number, line in enumerate(lines):
+        if AROUND.match(line):
+            around = type_and_trait(lines[number:])
+            found.append(Member("impl", path, around))
+        elif line == "}":
+            around = set()
+        member = MEMBER.match(line)
+        if member:
+            found.append(Member(member.group(1), path, around))
+        if found:
+            found[-1].text += line + "\n"
+    return found
+
+
+@lru_cache(maxsize=None)
+def members():
+    """The functions and ghost members of all crates, by name."""
+    found = {}
+    for path in sorted(CRATES.glob("*/src/**/*.rt")):
+        for member in members_of_file(path):
+            found.setdefault(member.name, []).append(member)
+    return found
+
+
+def imports_of(text):
+    """What a file imports from specs: each name with its crate and module."""
+    found = {}
+    for crate, module, names in IMPORT.findall(text):
+        found |= {name: (crate, module) for name in WORD.findall(names)}
+    return found
+
+
+@lru_cache(maxsize=None)
+def module(crate, name):
+    """The definitions of a module of specs and what it imports, or None if there is no such module."""
+    path, root = CRATES / crate / "specs" / f"{name}.antt", CRATES / crate / "specs" / "Lib.antt"
+    if path.exists():
+        text = path.read_text()
+        return definitions_of(text), imports_of(text)
+    exports = EXPORT.findall(root.read_text()) if root.exists() else []
+    return next((module(other, there) for other, there, alias in exports if name == (alias or there)), None)
+
+
+def definitions_of(text):
+    """The definitions in the text of a file of specs, by name."""
+    found, open_one, has_fields = {}, Definition(), False
+    for line in text.splitlines():
+        if line.lstrip().startswith(("--", "use ")):
+            continue
+        begins, inner = DEFINITION.match(line), FIELD.match(line)
+        if begins and not (has_fields and inner):
+            open_one = found.setdefault(begins.group(2), Definition())
+            has_fields = begins.group(1) is not None
+        elif has_fields and inner:
+            open_one.fields |= set(inner.group(1).split(", "))
+        open_one.words |= set(WORD.findall(line))
+    return found
+
+
+@lru_cache(maxsize=None)
+def definitions():
+    """All definitions of specs: each name with the places where it is defined."""
+    found = {}
+    for path in sorted(CRATES.glob("*/specs/*.antt")):
+        crate = path.relative_to(CRATES).parts[0]
+        for name in module(crate, path.stem)[0]:
+            found.setdefault(name, []).append((crate, path.stem))
+    return found
+
+
+@lru_cache(maxsize=None)
+def words():
+    """The words of all source files, specs and lemmas."""
+    texts = [path.read_text() for part in ("src", "specs") for path in CRATES.glob(f"*/{part}/**/*.*t")]
+    return {word for text in texts for word in WORD.findall(text)}
+
+
+@lru_cache(maxsize=None)
+def facts_of(crate, name, word):
+    """The fields of the records that a definition cites, directly or not."""
+    fields, seen, todo = set(), set(), [(crate, name, word)]
+    while todo:
+        crate, name, word = at = todo.pop()
+        found = module(crate, name)
+        if at in seen or not found or word not in found[0]:
+            continue
+        seen.add(at)
+        definitions, imports = found
+        fields |= definitions[word].fields
+        for other in definitions[word].words:
+            todo += [(crate, name, other)] if other in definitions else []
+            todo += [(*imports[other], other)] if other in imports else []
+    return fields
+
+
+@lru_cache(maxsize=None)
+def imports_of_file(path):
+    """What a source file imports from specs."""
+    return imports_of(path.read_text())
+
+
+def facts(member):
+    """The fields of the records that the text of a member cites, directly or not."""
+    imports = imports_of_file(member.path)
+    cited = set(WORD.findall(member.text)) & set(imports)
+    return {fact for word in cited for fact in facts_of(*imports[word], word)}
+
+
+@lru_cache(maxsize=None)
+def exported(stem):
+    """The names that the files of a name re-export."""
+    texts = [path.read_text() for path in CRATES.glob(f"*/src/**/{stem}.rt")]
+    lists = [names for text in texts for names in re.findall(r"^pub use ([^;]*);", text, re.M | re.S)]
+    return {word for names in lists for word in WORD.findall(names)}
