@@ -39,6 +39,7 @@ PARTS_OF_ALL = {"src/", "specs/", "proofs/", "proofs/lemmas/", "lemmas/"}
 ELSEWHERE = re.compile(r"^crates/app\b|(^|/)out/")
 MODULE = re.compile(r"`Rattle\.(\w+)\.specs\.(\w+)`")
 CALL = re.compile(r"^&?[^\W\d]\w*(::[^\W\d]\w*)*$")
+APPLIED = re.compile(r"^[\w -]+$")
 NAME = re.compile(r"^[^\W\d]\w*(-\w+)*$")
 
 
@@ -175,10 +176,11 @@ def wrong_labels(text):
 
 
 def lead_of(item):
-    """What an item of a list has before its colon, and the modules in parentheses in it, with short ones as they are."""
+    """The names before the colon of an item of a list, and what is in back ticks in parentheses there."""
     lead = re.split(r":(?= |$)(?![^()]*\))", item)[0]
     inner = " ".join(PARENTHESES.findall(lead))
-    return [name.split()[0] for name in CODE.findall(PARENTHESES.sub("", lead))], CODE.findall(inner)
+    names = [name for name in CODE.findall(PARENTHESES.sub("", lead)) if APPLIED.match(name)]
+    return [name.split()[0] for name in names], CODE.findall(inner)
 
 
 def place_of(name, places):
@@ -215,7 +217,7 @@ def wrong_modules(text):
             yield from (f"{number}: {fault}" for fault in undefined_names(line, current, places))
         for name in CODE.findall(line):
             word = name.split()[0]
-            if NAME.match(word) and len(word) > 2 and word not in source_names.words():
+            if NAME.match(word) and "-" not in word and word not in source_names.words():
                 yield f"{number}: no source has {word}"
 
 
