@@ -8,6 +8,8 @@ Clauses: PROVED.md names calls and, after a colon, labels of their clauses. Each
 a ghost member or a call of such a type or trait, a trait that it implements, or a field of a record that the clauses
 cite. What is in parentheses is looked for only as a word.
 
+A link to a source file has names of that file as its text, and labels of these may follow a colon.
+
 Definitions: a list of MODEL.md begins with their module. A name before the colon of an item is defined in that module,
 or in one that the item names in parentheses.
 
@@ -39,6 +41,7 @@ PARTS_OF_ALL = {"src/", "specs/", "proofs/", "proofs/lemmas/", "lemmas/"}
 ELSEWHERE = re.compile(r"^crates/app\b|(^|/)out/")
 MODULE = re.compile(r"`Rattle\.(\w+)\.specs\.(\w+)`")
 CALL = re.compile(r"^&?[^\W\d]\w*(::[^\W\d]\w*)*$")
+LINKED = re.compile(r"\[([^\]]*`[^\]]*)\]\(([^)\s#]+\.(?:rt|antt))\)((?:: (?:`\w+`(?:, |, and | and )?)+)?)")
 APPLIED = re.compile(r"^[\w -]+$")
 NAME = re.compile(r"^[^\W\d]\w*(-\w+)*$")
 
@@ -120,7 +123,12 @@ def labels_of(name, crates):
     places = source_names.definitions().get(name, [])
     if not found and not places:
         return None
-    known = {fact for place in places for fact in source_names.facts_of(*place, name)}
+    return known_labels(found) | {fact for place in places for fact in source_names.facts_of(*place, name)}
+
+
+def known_labels(found):
+    """The labels that a call may have, from its members."""
+    known = set()
     for member in found:
         known |= member.labels | member.around | {member.name} | source_names.facts(member)
     return known
@@ -170,6 +178,21 @@ def wrong_labels(text):
     for number, cell, crates in cells_of_contracts(text):
         for part in segments(cell):
             yield from (f"{number}: {fault}" for fault in wrong_names(*part, crates))
+
+
+def wrong_links(page, text):
+    """The names in links to sources that the file does not have, and the labels after them that they do not have."""
+    for names, target, labels in LINKED.findall(text):
+        path = (page.parent / target).resolve()
+        lasts = [name.split("::")[-1] for name in CODE.findall(names)]
+        if not path.is_file():
+            continue
+        known = set(source_names.WORD.findall(path.read_text()))
+        yield from (f"{target} has no {name}" for name in lasts if NAME.match(name) and name not in known)
+        found = [it for it in all_members() if it.path == path and set(lasts) & (it.around | {it.name})]
+        for label in CODE.findall(labels):
+            if label not in known_labels(found):
+                yield f"{label} is no label of {', '.join(lasts)} in {target}"
 
 
 # ---- definitions
@@ -274,7 +297,7 @@ def wrong_proofs(text):
 def faults_of(page):
     """What is wrong in the names of a page."""
     text = page_text.prose_of(page)
-    yield from missing_paths(text)
+    yield from [*missing_paths(text), *wrong_links(page, text)]
     if page.name == "PROVED.md":
         yield from wrong_labels(text)
     if page.name == "MODEL.md":

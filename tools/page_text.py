@@ -12,7 +12,7 @@ DECISIONS = "docs/DECISIONS.md"
 LONGEST = 40
 
 # How a sentence begins that may be longer.
-MAY_BE_LONG = ("For every element type that keeps the laws of `Integer`, each set after",)
+MAY_BE_LONG = ("For every element type that keeps Integer's laws, each set after any list of calls",)
 
 FENCED = re.compile(r"^ *```.*?^ *```$", re.M | re.S)
 COMMENT = re.compile(r"<!--.*?-->", re.S)
