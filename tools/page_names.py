@@ -99,14 +99,16 @@ def owners(name, crates):
     and of the crates below if these have none."""
     *path, last = name.lstrip("&").split("::")
     if last[:1].isupper() or not source_names.members().get(last):
-        found = [it for it in all_members() if last in it.around | {it.path.stem}]
+        found = source_names.members_of_places().get(last, [])
         near = source_names.with_those_below(crates)
     else:
         found = source_names.members()[last]
-        near = crates if any(it.crate in crates for it in found) else source_names.with_those_below(crates)
+        is_near = any(it.crate in crates for it in found)
+        near = crates if is_near else source_names.with_those_below(crates)
     return [it for it in found if it.crate in near and (not path or is_in(it, path[-1], last))]
 
 
+@lru_cache(maxsize=None)
 def all_members():
     """The members of all crates."""
     return [member for many in source_names.members().values() for member in many]
@@ -117,6 +119,7 @@ def is_in(member, place, name):
     return place in member.around | {member.crate, member.path.stem} or name in source_names.exported(place)
 
 
+@lru_cache(maxsize=None)
 def labels_of(name, crates):
     """The labels that a call, a type, a trait, a module or a definition may have, or None if there is none such."""
     found = owners(name, crates)
@@ -150,34 +153,56 @@ def segments(cell):
         yield [] if " except " in calls else CODE.findall(calls), CODE.findall(labels), inner
 
 
-def cells_of_contracts(text):
-    """The last cell of each row of PROVED.md's tables of contracts, with the crates of its section."""
+def rows_of_contracts(text):
+    """The rows of PROVED.md's tables of contracts: what stands before the last cell, that cell, and the crates."""
     for number, line, crates in sections(text):
         if line.startswith("|") and not re.match(r"\|[-|\s]*$|.*\| Contracts \|$", line):
-            yield number, re.split(r"(?<!\\)\|", line)[-2], crates or list(source_names.uses())
+            *before, cell, _ = re.split(r"(?<!\\)\|", line)
+            yield number, " ".join(before), cell, tuple(crates or source_names.uses())
+
+
+def calls_of(names):
+    """The names that may be those of calls, types, traits or modules."""
+    return [name for name in names if CALL.match(name) and not is_path(name)]
 
 
 def wrong_names(calls, labels, inner, crates):
-    """The calls and labels of a part of a cell that no source has."""
-    calls = [name for name in calls if CALL.match(name) and not is_path(name)]
-    for name in [*inner, *calls]:
-        if CALL.match(name) and name.lstrip("&").split("::")[-1] not in source_names.words():
+    """The calls and labels of a part of a cell that no source has, where labels follow a colon."""
+    for name in calls_of([*inner, *calls]):
+        if name.lstrip("&").split("::")[-1] not in source_names.words():
             yield f"no source has {name}"
     if not labels:
         return
-    known = [labels_of(name, crates) for name in calls]
-    yield from (f"no call is {name}" for name, found in zip(calls, known) if found is None)
-    every = set().union(*(found or set() for found in known)) if calls else labels_in(tuple(crates))
+    known = {name: labels_of(name, crates) for name in calls_of(calls)}
+    yield from (f"no call is {name}" for name, found in known.items() if found is None)
+    every = set().union(*(found or set() for found in known.values())) if known else labels_in(crates)
     for label in labels:
         if NAME.match(label) and label not in every:
-            yield f"{label} is no label of {', '.join(calls) or 'a call of the section'}"
+            yield f"{label} is no label of {', '.join(known) or 'a call of the section'}"
+
+
+def wrong_alone(names, crates, around):
+    """The names without labels that are neither calls nor labels of the calls that are named around them."""
+    known = set().union(*(labels_of(name, crates) or set() for name in around)) or labels_in(crates)
+    for name in calls_of(names):
+        # A type of std or of the kit has no labels here.
+        first = name.split("::")[0] if "::" in name else ""
+        is_ours = not first or labels_of(first, tuple(source_names.uses())) is not None
+        if is_ours and name not in known and labels_of(name, tuple(source_names.uses())) is None:
+            yield f"{name} is no call, and no label of {', '.join(around) or 'a call of the section'}"
 
 
 def wrong_labels(text):
     """The calls and labels of PROVED.md that no source has."""
-    for number, cell, crates in cells_of_contracts(text):
-        for part in segments(cell):
-            yield from (f"{number}: {fault}" for fault in wrong_names(*part, crates))
+    above = []
+    for number, claim, cell, crates in rows_of_contracts(text):
+        parts = list(segments(cell))
+        named = calls_of(CODE.findall(claim) + [name for calls, labels, _ in parts if labels for name in calls])
+        for calls, labels, inner in parts:
+            yield from (f"{number}: {fault}" for fault in wrong_names(calls, labels, inner, crates))
+            if not labels:
+                yield from (f"{number}: {fault}" for fault in wrong_alone(calls, crates, named or above))
+        above = named or calls_of(calls_of(CODE.findall(PARENTHESES.sub("", cell)))) or above
 
 
 def wrong_links(page, text):

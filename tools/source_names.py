@@ -21,16 +21,14 @@ EXPORT = re.compile(r"^pub use Rattle\.(\w+)\.specs\.(\w+)(?: as (\w+))?$", re.M
 
 @dataclass
 class Member:
-    """A function, ghost member or `impl`: its name, its file, the type and the trait that it is of, and its text."""
+    """A function, ghost member or `impl`: its name, its file, its crate, the type and the trait that it is of, and its
+    text."""
 
     name: str
     path: Path
+    crate: str
     around: set
     text: str = ""
-
-    @property
-    def crate(self):
-        return self.path.relative_to(CRATES).parts[0]
 
     @property
     def labels(self):
@@ -89,15 +87,16 @@ def type_and_trait(lines):
 def members_of_file(path):
     """The functions, ghost members and `impl`s of a source file."""
     found, around, lines = [], set(), path.read_text().splitlines()
+    crate = path.relative_to(CRATES).parts[0]
     for number, line in enumerate(lines):
         if AROUND.match(line):
             around = type_and_trait(lines[number:])
-            found.append(Member("impl", path, around))
+            found.append(Member("impl", path, crate, around))
         elif line == "}":
             around = set()
         member = MEMBER.match(line)
         if member:
-            found.append(Member(member.group(1), path, around))
+            found.append(Member(member.group(1), path, crate, around))
         if found:
             found[-1].text += line + "\n"
     return found
@@ -110,6 +109,16 @@ def members():
     for path in sorted(CRATES.glob("*/src/**/*.rt")):
         for member in members_of_file(path):
             found.setdefault(member.name, []).append(member)
+    return found
+
+
+@lru_cache(maxsize=None)
+def members_of_places():
+    """The functions and ghost members of all crates, by the types, traits, modules and crates that they are in."""
+    found = {}
+    for member in (it for many in members().values() for it in many):
+        for place in member.around | {member.path.stem, member.crate}:
+            found.setdefault(place, []).append(member)
     return found
 
 
