@@ -1,21 +1,19 @@
-"""Checks of the names in pages, which take no time.
+"""Checks of the names in pages, which take seconds.
 
-Paths: a name of a file or a folder in back ticks is relative to the root, to `crates/`, to the folder or the `src/` of a
-crate that a heading above it names, or, if it is a test's, to the `src/` of a test crate. A file name without a folder
-is that of a file in such a crate, or anywhere if no heading names a crate.
+Paths: a path in back ticks is relative to the root, to `crates/`, or to the folder or the `src/` of a crate that a
+heading above it names. That of a test may be relative to the `src/` of a test crate. A file name alone is that of a
+file in a crate that a heading names, or of any file if none names one.
 
-Clauses: PROVED.md names calls and, after a colon, labels of their clauses. Each label is one of a clause of such a call,
-a ghost member or a call of such a type or trait, a trait that it implements, or a field of a record that the clauses
-cite. What is in parentheses is looked for only as a word.
-
-A link to a source file has names of that file as its text, and labels of these may follow a colon.
+Clauses: in PROVED.md, labels follow a call and a colon. Each is that of a clause of such a call, the name of a call or
+a ghost member of such a type or trait, a trait that it implements, or a field of a record that the clauses cite. Names
+without a colon are those of calls, or labels of calls that the row or the row above names. What is in parentheses is
+looked for only as a word. The text of a link to a source file has names of that file, and labels may follow.
 
 Definitions: a list of MODEL.md begins with their module. A name before the colon of an item is defined in that module,
 or in one that the item names in parentheses.
 
-Crates: ARCHITECTURE.md's first table has each crate of crates.txt with what it uses, its picture has each crate, and a
-heading or a paragraph describes it. A crate with lemmas has a heading in PROOFS.md with each subject, and the others are
-named there.
+Crates: ARCHITECTURE.md has each crate of crates.txt in its first table, with what it uses, in its picture, and in the
+part that describes crates. PROOFS.md names each crate, and lists the subjects of its lemmas under its heading.
 """
 import re
 from functools import lru_cache
@@ -39,7 +37,6 @@ PARTS = {"src", "specs", "proofs", "must-fail", "mutants"}
 PARTS_OF_ALL = {"src/", "specs/", "proofs/", "proofs/lemmas/", "lemmas/"}
 # The crate of a reader, and what builds make, which the repository does not have.
 ELSEWHERE = re.compile(r"^crates/app\b|(^|/)out/")
-MODULE = re.compile(r"`Rattle\.(\w+)\.specs\.(\w+)`")
 CALL = re.compile(r"^&?[^\W\d]\w*(::[^\W\d]\w*)*$")
 LINKED = re.compile(r"\[([^\]]*`[^\]]*)\]\(([^)\s#]+\.(?:rt|antt))\)((?:: (?:`\w+`(?:, |, and | and )?)+)?)")
 APPLIED = re.compile(r"^[\w -]+$")
@@ -202,7 +199,7 @@ def wrong_labels(text):
             yield from (f"{number}: {fault}" for fault in wrong_names(calls, labels, inner, crates))
             if not labels:
                 yield from (f"{number}: {fault}" for fault in wrong_alone(calls, crates, named or above))
-        above = named or calls_of(calls_of(CODE.findall(PARENTHESES.sub("", cell)))) or above
+        above = named or calls_of(CODE.findall(PARENTHESES.sub("", cell))) or above
 
 
 def wrong_links(page, text):

@@ -63,25 +63,21 @@ def with_those_below(crates):
 
 def without_generics(text):
     """A text without what is between angle brackets."""
-    while "<" in text:
-        shorter = re.sub(r"<[^<>]*>", "", text)
-        if shorter == text:
-            break
-        text = shorter
-    return text
+    shorter = re.sub(r"<[^<>]*>", "", text)
+    return text if shorter == text else without_generics(shorter)
 
 
 def type_and_trait(lines):
-    """The type and the trait of an `impl`, or the trait that is declared, whose first line comes first."""
+    """The type and the trait of an `impl`, or the trait that is declared, from the first of these lines on."""
     head = ""
     for line in lines:
         head += " " + line
         if line.endswith(("{", "{}")) or " where" in line:
             break
-    head = without_generics(head.replace("->", "")).partition(" where")[0]
-    words = re.sub(r"\b(pub|unsafe|impl|trait|mut)\b|'\w+|\(crate\)", " ", head).partition(":")[0] if "trait " in head else head
-    words = re.sub(r"\b(pub|unsafe|impl|trait|mut|dyn)\b|'\w+|\w+::|\(crate\)", " ", words)
-    return {WORD.search(part).group() for part in words.split(" for ") if WORD.search(part)}
+    plain = " ".join(re.sub(r"'\w+|\w+::|\bdyn\b|\bmut\b", "", without_generics(head.replace("->", ""))).split())
+    declared = re.search(r"\btrait (\w+)", plain)
+    found = declared or re.search(r"\bimpl (?:(\w+) for )?\W*(\w+)", plain)
+    return {word for word in found.groups() if word} if found else set()
 
 
 def members_of_file(path):
