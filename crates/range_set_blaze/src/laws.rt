@@ -2,13 +2,28 @@
 //! `cmp_counted` is here too: it returns the order of two sets and the number of iterations that
 //! the comparison takes.
 
+ghost use Rattle.std.specs.Prelude.{List};
+ghost use Rattle.rsb_integer.specs.Runs.{members, AreRuns, Interval};
+
 pub use crate::set::elements::elements_stand_for_sets;
 pub use crate::set::hash::run_bounds_are_ends;
 pub use crate::set::order::{cmp_counted, order_by_least_difference};
+pub use crate::set::ranges_are_maximal_runs;
+use rsb_integer::Integer;
 pub use rsb_integer::laws::{
     at_least_all, at_least_falls, at_least_one, canonical_lists_are_runs, complement_twice,
     de_morgan, difference_by_complement, equal_members_equal_lists, offsets_undo_length,
     symmetric_by_union,
 };
 pub use rsb_many::laws::{one_list_of_events, some_list_of_events};
+use rsb_streams::DrawDisjoint;
 pub use rsb_streams::laws::one_filled_list;
+
+/// Whatever list of ranges a ready stream may give is the ascending list of all maximal runs of its
+/// members. It holds for every stream built by set operations, at any depth, and for every other
+/// `DrawDisjoint`. Not in range-set-blaze.
+pub fn stream_ranges_are_maximal_runs<T: Integer, I: DrawDisjoint<T>>(stream: &I)
+    requires { I.can_draw stream.now }
+    ensures { (runs : List Interval) → I.may_give stream.now runs
+        → AreRuns T.value_count (members runs) runs }
+{}

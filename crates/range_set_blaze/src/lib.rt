@@ -22,7 +22,8 @@ pub use crate::prelude::{
     Union, UnionIter, at_least_all, at_least_falls, at_least_one, canonical_lists_are_runs,
     cmp_counted, complement_twice, de_morgan, difference_by_complement, elements_stand_for_sets,
     equal_members_equal_lists, offsets_undo_length, one_filled_list, one_list_of_events,
-    order_by_least_difference, run_bounds_are_ends, some_list_of_events, symmetric_by_union,
+    order_by_least_difference, ranges_are_maximal_runs, run_bounds_are_ends, some_list_of_events,
+    stream_ranges_are_maximal_runs, symmetric_by_union,
 };
 
 /// The functions that the macros call.

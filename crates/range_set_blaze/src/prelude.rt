@@ -1,6 +1,7 @@
 //! Every public name of this crate and of the crates that it is built on, except
-//! `UnsortedDisjoint` and what the macros call. `use range_set_blaze::prelude::*;` imports them all
-//! (docs/DECISIONS.md, names-listed).
+//! `UnsortedDisjoint`, `spelled_ranges`, what the macros call, and what only `rsb_storage` uses for
+//! storage: `Run`, `Runs` and the functions of its modules. `use range_set_blaze::prelude::*;`
+//! imports them all (docs/DECISIONS.md, names-listed).
 
 pub use crate::into_iter::IntoIter;
 pub use crate::into_range_set_blaze::IntoRangeSetBlaze;
@@ -9,7 +10,8 @@ pub use crate::laws::{
     at_least_all, at_least_falls, at_least_one, canonical_lists_are_runs, cmp_counted,
     complement_twice, de_morgan, difference_by_complement, elements_stand_for_sets,
     equal_members_equal_lists, offsets_undo_length, one_filled_list, one_list_of_events,
-    order_by_least_difference, run_bounds_are_ends, some_list_of_events, symmetric_by_union,
+    order_by_least_difference, ranges_are_maximal_runs, run_bounds_are_ends, some_list_of_events,
+    stream_ranges_are_maximal_runs, symmetric_by_union,
 };
 pub use crate::multiway::{MultiwayRangeSetBlaze, MultiwayRangeSetBlazeRef};
 pub use crate::set::RangeSetBlaze;

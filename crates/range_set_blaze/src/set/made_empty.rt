@@ -32,6 +32,7 @@ impl<T: Integer, A: Allocator + Copy> MadeWith<A> for RangeSetBlaze<T, A> {
 impl<T: Integer, A: Allocator> RangeSetBlaze<T, A> {
     /// Returns the allocator of the set. Calls on the set use it to make other sets. Not in
     /// range-set-blaze.
+    // No clause names the allocator: contracts see only the runs (docs/DECISIONS.md, set-as-runs).
     pub fn allocator(&self) -> &A {
         &self.alloc
     }
