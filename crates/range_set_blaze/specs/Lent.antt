@@ -4,7 +4,7 @@ use Rattle.std.specs.Prelude.{◌≡◌, ℕ, List, map, Option, None, Some, Mat
 use Rattle.std.specs.declared.ops.RangeInclusive.{RangeInclusive}
 use Rattle.rsb_integer.specs.Rank.{interval_of}
 use Rattle.rsb_integer.specs.Runs.{covers}
-use Rattle.range_set_blaze.specs.declared.set.lent_ranges.LentRanges.{LentRanges}
+use Rattle.range_set_blaze.specs.declared.set.collect.by_reference.LentRanges.{LentRanges}
 
 -- The values that the references point to.
 abbrev pub pointed_to : {T : Type 0} → List (Bor T) → List T

@@ -1,7 +1,7 @@
 -- The values of an iterator as ranges.
 use Rattle.std.specs.Prelude.{◌≡◌, false, Option, Some, None, MatchOption}
 use Rattle.std.specs.declared.ops.RangeInclusive.{RangeInclusive}
-use Rattle.range_set_blaze.specs.declared.set.singles.Singles.{Singles}
+use Rattle.range_set_blaze.specs.declared.set.collect.values_as_ranges.Singles.{Singles}
 
 -- The range of one value.
 abbrev pub range_of_one : {T : Type 0} → T → RangeInclusive T

@@ -1,6 +1,7 @@
 //! The runs of a set in a map, and the streams over them. Users of sets call `range_set_blaze`.
 #![tactic(auto)]
 
+pub mod bounds;
 pub mod entries;
 pub mod gaps;
 pub mod gaps_in;

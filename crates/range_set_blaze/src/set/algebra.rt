@@ -8,7 +8,7 @@ ghost use Rattle.rsb_streams.specs.RunCount.{HasFewerRunsThanBoth, HasOneRunMore
 ghost use Rattle.rsb_storage.specs.Set.{IsSetOf};
 
 use crate::set::RangeSetBlaze;
-use crate::set::apart::{chained, lies_below};
+use crate::set::disjoint_union::{chained, lies_below};
 use rsb_integer::Integer;
 use rsb_streams::DrawDisjoint;
 use std::alloc::{AllocError, Allocator};

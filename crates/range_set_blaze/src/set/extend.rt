@@ -9,7 +9,7 @@ ghost use Rattle.range_set_blaze.specs.Algebra.{ranks_of, AddsPrefixOf, AddsItem
 ghost use Rattle.rsb_storage.specs.Set.{Adds, IsSetOf};
 
 use crate::set::RangeSetBlaze;
-use crate::set::singles::Singles;
+use crate::set::collect::values_as_ranges::Singles;
 use rsb_integer::Integer;
 use rsb_storage::run::run_of_range;
 use rsb_streams::UnsortedDisjoint;

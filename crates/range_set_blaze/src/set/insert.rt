@@ -1,23 +1,23 @@
 //! Insertion of values and of ranges.
 
-ghost use Rattle.std.specs.Prelude.{◌≡◌, ◌↔◌, ℕ, ◌+◌, ◌-◌, ◌<◌, ◌≤◌, max, Some, IfOk, IfSome, IsFalse, IsNone, IsOk, IsSome, IsTrue, MatchOption, OnErr, OnOk};
-ghost use Rattle.std.specs.Range.Bound.{bound_map};
+ghost use Rattle.std.specs.Prelude.{◌≡◌, ◌↔◌, ℕ, ◌+◌, ◌<◌, ◌≤◌, max, Some, IfOk, IfSome, IsFalse, IsNone, IsOk, IsSome, IsTrue, MatchOption, OnErr, OnOk};
 ghost use Rattle.rsb_integer.specs.Runs.{covers, length_of, members, IsCanonicalIn, HasRanks};
 ghost use Rattle.rsb_integer.specs.Selection.{IsEmpty, LacksSome};
 ghost use Rattle.range_set_blaze.specs.Joining.{HasAll, IsHull, IsInserted, IsJoining, IsReaching, IsUnreached};
 ghost use Rattle.rsb_storage.specs.Storage.{run_of, IsKept};
 ghost use Rattle.rsb_streams.specs.RunCount.{HasOneRunMoreAtMost};
 ghost use Rattle.rsb_storage.specs.Starts.{IsLastBelow, IsLastTwo, NoneBelow};
-ghost use Rattle.rsb_storage.specs.Set.{first_rank, only, past_rank, ranks_in, Adds, IsReached};
+ghost use Rattle.rsb_storage.specs.Set.{first_rank, only, ranks_in, Adds, IsReached};
 
 use crate::set::RangeSetBlaze;
-use crate::set::take_in::take_in;
+use crate::set::swallow::take_in;
 use rsb_integer::Integer;
+use rsb_storage::bounds::run_between;
 use rsb_storage::lengths::{add_length, take_off_length};
-use rsb_storage::run::{Run, greater, is_below, known, next_or_greatest, previous, reaches};
+use rsb_storage::run::{Run, greater, is_below, next_or_greatest, reaches};
 use rsb_storage::runs::Runs;
 use std::alloc::{AllocError, Allocator};
-use std::ops::{Bound, RangeBounds};
+use std::ops::RangeBounds;
 
 /// A new run joined with all runs that it touches, and up to three of those runs. `first` starts
 /// where `joined` does. `last` and `before` are two runs that start inside `joined`, past its
@@ -116,57 +116,6 @@ impl<T: Integer, A: Allocator + Clone> RangeSetBlaze<T, A> {
         self.length = length;
         Ok(true)
     }
-}
-
-// Returns the last value that an upper bound allows, or `None` if there is none.
-fn last_to<T: Integer>(bound: Bound<&T>) -> Option<T>
-    ensures none { IsNone result
-        → past_rank T.rank T.value_count (bound_map (λ value. value.now) bound.entry) ≡ 0 }
-    ensures last { IfSome result (λ last.
-        T.rank last + 1 ≡ past_rank T.rank T.value_count
-        (bound_map (λ value. value.now) bound.entry)) }
-    ensures value { IfSome result (λ last. T.rank last < T.value_count) }
-{
-    match bound {
-        Bound::Included(last) => Some(known(*last)),
-        Bound::Excluded(past) => previous(known(*past)),
-        Bound::Unbounded => Some(T::max_value()),
-    }
-}
-
-// Returns the first value that a lower bound allows, or `None` if there is none.
-fn first_from<T: Integer>(bound: Bound<&T>) -> Option<T>
-    ensures none { IsNone result
-        → T.value_count ≤ first_rank T.rank (bound_map (λ value. value.now) bound.entry) }
-    ensures first { IfSome result (λ first.
-        T.rank first ≡ first_rank T.rank (bound_map (λ value. value.now) bound.entry)) }
-    ensures value { IfSome result (λ first. T.rank first < T.value_count) }
-{
-    match bound {
-        Bound::Included(first) => Some(known(*first)),
-        Bound::Excluded(before) => before.checked_add_one(),
-        Bound::Unbounded => Some(T::min_value()),
-    }
-}
-
-// Returns the values between two bounds as a run, or `None` if there are none.
-pub(crate) fn run_between<T: Integer, R: RangeBounds<T>>(range: &R) -> Option<Run<T>>
-    ensures none { R.has_bounds range.now → IsNone result →
-        past_rank T.rank T.value_count (R.end_bound range.now)
-        ≤ first_rank T.rank (R.start_bound range.now) }
-    ensures start { R.has_bounds range.now → IfSome result (λ run.
-        T.rank run.start ≡ first_rank T.rank (R.start_bound range.now)) }
-    ensures end { R.has_bounds range.now → IfSome result (λ run.
-        T.rank run.end + 1 ≡ past_rank T.rank T.value_count (R.end_bound range.now)) }
-    ensures order { IfSome result (λ run. T.rank run.start ≤ T.rank run.end) }
-    ensures value { IfSome result (λ run. T.rank run.end < T.value_count) }
-{
-    let end = last_to(range.end_bound())?;
-    let start = first_from(range.start_bound())?;
-    if is_below(end, start) {
-        return None;
-    }
-    Some(Run { start, end })
 }
 
 // Inserts the values of a run and returns the new number of members, or `None` if none of the

@@ -9,9 +9,9 @@ ghost use Rattle.rsb_streams.specs.RunCount.{HasOneRunMoreAtMost};
 ghost use Rattle.rsb_storage.specs.Set.{past_rank, ranks_in, Removes};
 
 use crate::set::RangeSetBlaze;
-use crate::set::insert::run_between;
 use crate::set::remove::cut;
 use rsb_integer::Integer;
+use rsb_storage::bounds::run_between;
 use rsb_storage::lengths::take_off_length;
 use rsb_storage::run::{Run, greater};
 use rsb_storage::runs::Runs;

@@ -1,20 +1,22 @@
 //! Removal of the members and of the runs for which a closure returns false.
 
-ghost use Rattle.std.specs.Prelude.{◌≡◌, Bool, [], IsOk, OnErr, OnOk};
+ghost use Rattle.std.specs.Prelude.{◌≡◌, Bool, [], IsOk, OnErr, OnOk, ◌+◌, ◌<◌, ◌≤◌, ℕ, ◌∷◌, None, Some, IfOk, IfSome, IsTrue};
 ghost use Rattle.std.specs.List.{filter};
-ghost use Rattle.rsb_integer.specs.Runs.{Interval, members};
-ghost use Rattle.rsb_integer.specs.Selection.{intersection, IsSubset, Selection};
+ghost use Rattle.rsb_integer.specs.Runs.{Interval, members, IsCanonicalIn};
+ghost use Rattle.rsb_integer.specs.Selection.{intersection, IsSubset, Selection, union};
 ghost use Rattle.rsb_streams.specs.Sublists.{IsSublist};
-ghost use Rattle.rsb_storage.specs.Storage.{IsKept};
-ghost use Rattle.range_set_blaze.specs.Retain.{AnswersByRank, AnswersByRun, AsksAll, AsksFront, AsksRuns, CallableOnMembers, CallableOnRuns};
-ghost use Rattle.rsb_storage.specs.Set.{IsSetOf};
+ghost use Rattle.rsb_storage.specs.Storage.{IsKept, run_of, runs_of};
+ghost use Rattle.range_set_blaze.specs.Retain.{AnswersByRank, AnswersByRun, AsksAll, AsksFront, AsksRuns, CallableOnMembers, CallableOnRuns, left_runs, past_piece, with_piece, IsCanonicalBelow, IsPastFirst};
+ghost use Rattle.rsb_storage.specs.Set.{IsSetOf, only};
 
 use crate::set::RangeSetBlaze;
-use crate::set::keep::kept_values;
 use rsb_integer::Integer;
+use rsb_storage::entries::next_run;
 use rsb_storage::lengths::take_off_length;
+use rsb_storage::run::{Run, reaches};
 use rsb_storage::runs::Runs;
 use std::alloc::{AllocError, Allocator};
+use std::collections::btree_map::Iter;
 use std::ops::RangeInclusive;
 
 impl<T: Integer, A: Allocator + Copy> RangeSetBlaze<T, A> {
@@ -92,4 +94,107 @@ fn retain_runs<T: Integer, A: Allocator, F: FnMut(&RangeInclusive<T>) -> bool>(
         next = runs.after(run.end);
     }
     length
+}
+
+// Returns the set of those values of the given runs for which `f` returns true. Calls `f` on each
+// value once, in ascending order.
+fn kept_values<T: Integer, A: Allocator + Copy, F: FnMut(&T) -> bool>(
+    runs: &Runs<T, A>,
+    alloc: A,
+    f: F,
+) -> Result<RangeSetBlaze<T, A>, AllocError>
+    requires canonical { IsCanonicalIn T.value_count runs.now }
+    requires callable { CallableOnMembers T.rank T.value_count F.FnMut f runs.now }
+    ensures within { IfOk result (λ kept. (rank : ℕ) → IsTrue (members kept rank)
+        → IsTrue (members runs.now rank)) }
+    ensures exact { (keeps : Selection) → AnswersByRank T.rank T.value_count F.FnMut keeps f
+        → IfOk result (λ kept. IsSetOf kept (intersection (members runs.now) keeps)) }
+    ensures asked { OnOk result (AsksAll T.rank F.FnMut f runs.now) }
+    ensures err { OnErr result (AsksFront T.rank F.FnMut f runs.now) }
+    ensures empty { runs.now ≡ [] → IsOk result }
+{
+    let mut f = f;
+    let mut kept = RangeSetBlaze::new(alloc);
+    let mut piece = None;
+    let mut entries = runs.iter();
+    let mut left = next_run(&mut entries);
+    while let Some(run) = left {
+        let value = run.start;
+        if f(&value) {
+            let grown = grow(&mut kept, piece, value)?;
+            piece = Some(grown);
+        }
+        left = next_left(&mut entries, run);
+    }
+    put_last(&mut kept, piece)?;
+    Ok(kept)
+}
+
+// Returns a run without its first value. If it has no other, returns the next run, or `None` at the
+// end.
+fn next_left<T: Integer>(entries: &mut Iter<'_, T, T>, run: Run<T>) -> Option<Run<T>>
+    requires order { T.rank run.start ≤ T.rank run.end }
+    requires value { T.rank run.end < T.value_count }
+    requires later { IsCanonicalBelow T.value_count (T.rank run.end + 2)
+        (runs_of T.rank entries.old) }
+    ensures { IsPastFirst T.value_count (run_of T.rank run ∷ runs_of T.rank entries.old)
+        (left_runs T.rank result entries.new) (T.rank run.start) }
+{
+    if run.starts_before(run.end) {
+        return Some(Run {
+            start: run.start.add_one(),
+            end: run.end,
+        });
+    }
+    next_run(entries)
+}
+
+// Adds a value to a piece that ends below it, and returns the piece. If the value does not touch
+// the piece, inserts the piece into the set and returns the value as a new piece.
+fn grow<T: Integer, A: Allocator + Clone>(
+    kept: &mut RangeSetBlaze<T, A>,
+    piece: Option<Run<T>>,
+    value: T,
+) -> Result<Run<T>, AllocError>
+    requires order { IfSome piece (λ run. T.rank run.start ≤ T.rank run.end) }
+    requires later { past_piece T.rank piece ≤ T.rank value }
+    requires value { T.rank value < T.value_count }
+    ensures order { IfOk result (λ run. T.rank run.start ≤ T.rank run.end) }
+    ensures last { IfOk result (λ run. T.rank run.end ≡ T.rank value) }
+    ensures added { IfOk result (λ run. (rank : ℕ) → with_piece T.rank kept.new (Some run) rank
+        ≡ union (with_piece T.rank kept.old piece) (only (T.rank value)) rank) }
+{
+    let Some(run) = piece else {
+        return Ok(Run {
+            start: value,
+            end: value,
+        });
+    };
+    if reaches(run.end, value) {
+        return Ok(Run {
+            start: run.start,
+            end: value,
+        });
+    }
+    kept.insert_run(run)?;
+    Ok(Run {
+        start: value,
+        end: value,
+    })
+}
+
+// Inserts the last piece into the set, if there is one.
+fn put_last<T: Integer, A: Allocator + Clone>(
+    kept: &mut RangeSetBlaze<T, A>,
+    piece: Option<Run<T>>,
+) -> Result<(), AllocError>
+    requires order { IfSome piece (λ run. T.rank run.start ≤ T.rank run.end) }
+    requires value { past_piece T.rank piece ≤ T.value_count }
+    ensures added { OnOk result (IsSetOf kept.new (with_piece T.rank kept.old piece)) }
+    ensures none { piece ≡ None → IsOk result }
+{
+    if let Some(run) = piece {
+        kept.insert_run(run)?;
+    }
+    Ok(())
 }

@@ -14,7 +14,7 @@ use Rattle.rsb_streams.specs.Items.{GaveAll}
 use Rattle.range_set_blaze.specs.Algebra.{IsSetOfItems}
 use Rattle.range_set_blaze.specs.Lent.{lent_steps, pointed_to}
 use Rattle.rsb_storage.specs.Set.{IsSetOf}
-use Rattle.range_set_blaze.specs.declared.set.lent_ranges.LentRanges.{LentRanges}
+use Rattle.range_set_blaze.specs.declared.set.collect.by_reference.LentRanges.{LentRanges}
 
 module _ {T : Type 0} where
   -- A value that was copied is one that a reference points to.

@@ -11,7 +11,7 @@ use Rattle.rsb_streams.specs.Items.{GaveAll}
 use Rattle.range_set_blaze.specs.Algebra.{ranks_of}
 use Rattle.rsb_storage.specs.Set.{IsSetOf}
 use Rattle.range_set_blaze.specs.Singles.{range_of_one, singles_steps}
-use Rattle.range_set_blaze.specs.declared.set.singles.Singles.{Singles}
+use Rattle.range_set_blaze.specs.declared.set.collect.values_as_ranges.Singles.{Singles}
 
 module _ {T I : Type 0} (rank : T → ℕ) (steps : I → Option T → I → Type 0) where
   -- If calls gave ranges, calls of the iterator inside gave their values.
