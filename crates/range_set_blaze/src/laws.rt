@@ -22,8 +22,7 @@ pub use rsb_streams::laws::one_filled_list;
 /// Whatever list of ranges a ready stream may give is the ascending list of all maximal runs of its
 /// members. It holds for every stream built by set operations, at any depth, and for every other
 /// `DrawDisjoint`. Not in range-set-blaze.
-pub fn stream_ranges_are_maximal_runs<T: Integer, I: DrawDisjoint<T>>(stream: &I)
-    requires { I.can_draw stream.now }
-    ensures { (runs : List Interval) → I.may_give stream.now runs
+pub fn stream_ranges_are_maximal_runs<T: Integer, I: DrawDisjoint<T>>()
+    ensures { (stream : I) (runs : List Interval) → I.can_draw stream → I.may_give stream runs
         → AreRuns T.value_count (members runs) runs }
 {}
