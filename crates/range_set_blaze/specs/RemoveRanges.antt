@@ -1,7 +1,8 @@
 -- What a removal of the values between two bounds does to a list of runs.
-use Rattle.std.specs.Prelude.{◌≡◌, ℕ, ◌+◌, ◌<◌, ◌≤◌, max, min, List, IsTrue, IsFalse}
+use Rattle.std.specs.Prelude.{◌≡◌, ℕ, ◌+◌, ◌<◌, ◌≤◌, max, min, List, Option, IfSome, IsNone, IsSome, IsTrue, IsFalse}
 use Rattle.rsb_integer.specs.Runs.{Interval, covers, members}
-use Rattle.rsb_integer.specs.Selection.{Selection}
+use Rattle.rsb_integer.specs.Selection.{intersection, IsEmpty, Selection}
+use Rattle.rsb_storage.specs.Set.{Removes}
 use Rattle.rsb_storage.specs.Storage.{IsKept}
 use Rattle.rsb_storage.specs.Starts.{IsLastBelow}
 
@@ -34,3 +35,14 @@ pub record IsNarrowed (n : ℕ) (range : Interval) (old new : List Interval) (le
   pub kept : IsKept n new length
   pub outside : IsSameOutside range old new
   pub ends : IsFalse (members new range.last)
+
+-- What a removal of the ranks of a window returns, and does to the runs. If the set has none of
+-- these ranks, it returns `None` and changes nothing. Otherwise it removes them, and returns the
+-- number of members left.
+pub record RemovesFound {L : Type 0} (number : L → ℕ) (n : ℕ) (window : Interval)
+    (old new : List Interval) (found : Option L) : Type 0 where
+  pub none : IsNone found → IsEmpty (intersection (members old) (covers window))
+  pub unchanged : IsNone found → new ≡ old
+  pub some : IsSome found → HasSome (members old) (covers window)
+  pub removed : IsSome found → Removes old new (covers window)
+  pub kept : IfSome found (λ (length : L). IsKept n new (number length))

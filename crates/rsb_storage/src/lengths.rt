@@ -18,7 +18,7 @@ pub fn add_length<T: Integer>(length: &mut T::SafeLen, run: Run<T>)
 }
 
 /// Subtracts the number of values of a run from a length.
-pub fn take_off_length<T: Integer>(length: &mut T::SafeLen, run: Run<T>)
+pub fn subtract_length<T: Integer>(length: &mut T::SafeLen, run: Run<T>)
     requires some { HasRanks (run_of T.rank run) }
     requires fits { T.SafeLen.number length.old ≤ T.value_count }
     requires counted { length_of (run_of T.rank run) ≤ T.SafeLen.number length.old }

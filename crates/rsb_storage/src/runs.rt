@@ -190,7 +190,7 @@ impl<T: Integer, A: Allocator> Runs<T, A> {
     }
 
     /// Removes the run that starts at a value, if there is one.
-    pub fn take(&mut self, start: T)
+    pub fn remove(&mut self, start: T)
         requires { T.rank start < T.value_count }
         ensures { self.new ≡ without_start (T.rank start) self.old }
     {

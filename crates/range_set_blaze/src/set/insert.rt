@@ -10,10 +10,10 @@ ghost use Rattle.rsb_storage.specs.Starts.{IsLastBelow, IsLastTwo, NoneBelow};
 ghost use Rattle.rsb_storage.specs.Set.{first_rank, only, ranks_in, Adds, IsReached};
 
 use crate::set::RangeSetBlaze;
-use crate::set::swallow::take_in;
+use crate::set::swallow::remove_swallowed;
 use rsb_integer::Integer;
 use rsb_storage::bounds::run_between;
-use rsb_storage::lengths::{add_length, take_off_length};
+use rsb_storage::lengths::{add_length, subtract_length};
 use rsb_storage::run::{Run, greater, is_below, next_or_greatest, reaches};
 use rsb_storage::runs::Runs;
 use std::alloc::{AllocError, Allocator};
@@ -292,7 +292,7 @@ fn put<T: Integer, A: Allocator + Clone>(
     // allocate (docs/DECISIONS.md, put-then-take).
     runs.put(run)?;
     let others = without(joining.first, total);
-    let mut length = take_in(runs, run, joining.last, joining.before, others);
+    let mut length = remove_swallowed(runs, run, joining.last, joining.before, others);
     add_length(&mut length, run);
     Ok(length)
 }
@@ -309,7 +309,7 @@ fn without<T: Integer>(first: Option<Run<T>>, total: T::SafeLen) -> T::SafeLen
 {
     let mut others = total;
     if let Some(first) = first {
-        take_off_length(&mut others, first);
+        subtract_length(&mut others, first);
     }
     others
 }

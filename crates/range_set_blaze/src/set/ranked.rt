@@ -55,7 +55,7 @@ fn nth_of<T: Integer, A: Allocator>(runs: &Runs<T, A>, n: T::SafeLen) -> Option<
         if is_less(left, length) {
             return Some(value_at(run, left));
         }
-        take_off(&mut left, length);
+        subtract(&mut left, length);
     }
     None
 }
@@ -68,11 +68,11 @@ fn is_less<L: SafeLength>(left: L, right: L) -> bool
 }
 
 // Subtracts a length from another.
-fn take_off<L: SafeLength>(length: &mut L, taken: L)
-    requires { L.number taken ≤ L.number length.old }
-    ensures { L.number length.new + L.number taken ≡ L.number length.old }
+fn subtract<L: SafeLength>(length: &mut L, other: L)
+    requires { L.number other ≤ L.number length.old }
+    ensures { L.number length.new + L.number other ≡ L.number length.old }
 {
-    *length -= taken;
+    *length -= other;
 }
 
 // Returns the number of values of a run.

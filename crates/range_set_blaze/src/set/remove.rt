@@ -10,7 +10,7 @@ ghost use Rattle.rsb_storage.specs.Set.{only, IsLeast, Removes};
 
 use crate::set::RangeSetBlaze;
 use rsb_integer::Integer;
-use rsb_storage::lengths::take_off_length;
+use rsb_storage::lengths::subtract_length;
 use rsb_storage::run::{Run, is_below, known};
 use rsb_storage::runs::Runs;
 use std::alloc::{AllocError, Allocator};
@@ -30,7 +30,7 @@ impl<T: Integer, A: Allocator + Clone> RangeSetBlaze<T, A> {
         ensures succeeds { IsFalse (members self.old (T.rank value + 1)) → IsOk result }
     {
         let length = self.length;
-        let Some(length) = take_value(&mut self.runs, known(value), length)? else {
+        let Some(length) = remove_value(&mut self.runs, known(value), length)? else {
             return Ok(false);
         };
         self.length = length;
@@ -96,7 +96,7 @@ impl<T: Integer, A: Allocator + Clone> RangeSetBlaze<T, A> {
 
 // Removes a value and returns the number of members that are left, or `None` if the value is not a
 // member. `total` is the number of members before. If allocation fails, the runs are unchanged.
-fn take_value<T: Integer, A: Allocator + Clone>(
+fn remove_value<T: Integer, A: Allocator + Clone>(
     runs: &mut Runs<T, A>,
     value: T,
     total: T::SafeLen,
@@ -126,7 +126,7 @@ fn take_value<T: Integer, A: Allocator + Clone>(
     };
     cut(runs, run, piece)?;
     let mut length = total;
-    take_off_length(&mut length, piece);
+    subtract_length(&mut length, piece);
     Ok(Some(length))
 }
 
@@ -155,7 +155,7 @@ pub(crate) fn cut<T: Integer, A: Allocator + Clone>(
         let start = run.start;
         runs.put(Run { start, end }).unwrap();
     } else {
-        runs.take(run.start);
+        runs.remove(run.start);
     }
     Ok(())
 }

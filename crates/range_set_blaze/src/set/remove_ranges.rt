@@ -1,10 +1,10 @@
 //! Removal of the values between two bounds.
 
-ghost use Rattle.std.specs.Prelude.{◌≡◌, ◌↔◌, ◌+◌, ◌<◌, ◌≤◌, IfOk, IfSome, IsFalse, IsNone, IsOk, IsSome, IsTrue, MatchOption, OnErr, OnOk};
+ghost use Rattle.std.specs.Prelude.{◌≡◌, ◌↔◌, ◌+◌, ◌<◌, ◌≤◌, IfOk, IsFalse, IsOk, IsTrue, MatchOption, OnErr, OnOk};
 ghost use Rattle.rsb_integer.specs.Runs.{covers, members, IsCanonicalIn};
 ghost use Rattle.rsb_integer.specs.Selection.{intersection, IsEmpty};
 ghost use Rattle.rsb_storage.specs.Storage.{run_of, IsKept};
-ghost use Rattle.range_set_blaze.specs.RemoveRanges.{HasSome, IsCommon, IsLastMeeting, IsNarrowed, IsSameOutside, Lacks};
+ghost use Rattle.range_set_blaze.specs.RemoveRanges.{HasSome, IsCommon, IsLastMeeting, IsNarrowed, IsSameOutside, Lacks, RemovesFound};
 ghost use Rattle.rsb_streams.specs.RunCount.{HasOneRunMoreAtMost};
 ghost use Rattle.rsb_storage.specs.Set.{past_rank, ranks_in, Removes};
 
@@ -12,7 +12,7 @@ use crate::set::RangeSetBlaze;
 use crate::set::remove::cut;
 use rsb_integer::Integer;
 use rsb_storage::bounds::run_between;
-use rsb_storage::lengths::take_off_length;
+use rsb_storage::lengths::subtract_length;
 use rsb_storage::run::{Run, greater};
 use rsb_storage::runs::Runs;
 use std::alloc::{AllocError, Allocator};
@@ -65,7 +65,7 @@ impl<T: Integer, A: Allocator + Clone> RangeSetBlaze<T, A> {
         ensures succeeds { Lacks T.value_count self.old (T.rank run.end + 1) → IsOk result }
     {
         let length = self.length;
-        let Some(length) = take_range(&mut self.runs, run, length)? else {
+        let Some(length) = remove_window(&mut self.runs, run, length)? else {
             return Ok(false);
         };
         self.length = length;
@@ -73,117 +73,110 @@ impl<T: Integer, A: Allocator + Clone> RangeSetBlaze<T, A> {
     }
 }
 
-// Removes the values of a range and returns the number of members that are left, or `None` if no
-// value of the range is a member. `total` is the number of members before. If allocation fails, the
-// runs are unchanged.
-fn take_range<T: Integer, A: Allocator + Clone>(
+// Removes the values of a window and returns the number of members that are left, or `None` if no
+// value of the window is a member. `total` is the number of members before. If allocation fails,
+// the runs are unchanged.
+fn remove_window<T: Integer, A: Allocator + Clone>(
     runs: &mut Runs<T, A>,
-    range: Run<T>,
+    window: Run<T>,
     total: T::SafeLen,
 ) -> Result<Option<T::SafeLen>, AllocError>
     requires kept { IsKept T.value_count runs.old (T.SafeLen.number total) }
-    requires order { T.rank range.start ≤ T.rank range.end }
-    requires value { T.rank range.end < T.value_count }
-    ensures unchanged { IfOk result (λ found. IsNone found → runs.new ≡ runs.old) }
-    ensures none { IfOk result (λ found. IsNone found
-        → IsEmpty (intersection (members runs.old) (covers (run_of T.rank range)))) }
-    ensures some { IfOk result (λ found. IsSome found
-        → HasSome (members runs.old) (covers (run_of T.rank range))) }
-    ensures kept { IfOk result (λ found. IfSome found
-        (λ length. IsKept T.value_count runs.new (T.SafeLen.number length))) }
-    ensures removed { IfOk result (λ found. IsSome found
-        → Removes runs.old runs.new (covers (run_of T.rank range))) }
+    requires order { T.rank window.start ≤ T.rank window.end }
+    requires value { T.rank window.end < T.value_count }
+    ensures found { IfOk result (RemovesFound T.SafeLen.number T.value_count (run_of T.rank window)
+        runs.old runs.new) }
     ensures err { OnErr result (runs.new ≡ runs.old) }
-    ensures nothing { IsEmpty (intersection (members runs.old) (covers (run_of T.rank range)))
+    ensures nothing { IsEmpty (intersection (members runs.old) (covers (run_of T.rank window)))
         → IsOk result }
-    ensures succeeds { Lacks T.value_count runs.old (T.rank range.end + 1) → IsOk result }
+    ensures succeeds { Lacks T.value_count runs.old (T.rank window.end + 1) → IsOk result }
 {
-    let Some(last) = last_meeting(runs, range) else {
+    let Some(last) = last_meeting(runs, window) else {
         return Ok(None);
     };
     let mut length = total;
-    // The last run comes first, since keeping its part past the range may fail to allocate.
-    take_common(runs, last, range, &mut length)?;
-    Ok(Some(take_others(runs, range, length)))
+    // The last run comes first, since keeping its part past the window may fail to allocate.
+    remove_common(runs, last, window, &mut length)?;
+    Ok(Some(remove_others(runs, window, length)))
 }
 
-/// Returns the last run that has a value in common with a range, or `None` if there is none.
+/// Returns the last run that has a value in common with a window, or `None` if there is none.
 pub(crate) fn last_meeting<T: Integer, A: Allocator>(
     runs: &Runs<T, A>,
-    range: Run<T>,
+    window: Run<T>,
 ) -> Option<Run<T>>
     requires canonical { IsCanonicalIn T.value_count runs.now }
-    requires order { T.rank range.start ≤ T.rank range.end }
-    requires value { T.rank range.end < T.value_count }
+    requires order { T.rank window.start ≤ T.rank window.end }
+    requires value { T.rank window.end < T.value_count }
     ensures { MatchOption result (IsEmpty (intersection (members runs.now)
-        (covers (run_of T.rank range)))) (λ run. IsLastMeeting runs.now (run_of T.rank range)
+        (covers (run_of T.rank window)))) (λ run. IsLastMeeting runs.now (run_of T.rank window)
         (run_of T.rank run)) }
 {
-    let run = runs.up_to(range.end)?;
-    if run.ends_before(range.start) {
+    let run = runs.up_to(window.end)?;
+    if run.ends_before(window.start) {
         return None;
     }
     Some(run)
 }
 
-// Removes the values of a range whose last value is not a member, and returns the number of members
-// that are left.
-fn take_others<T: Integer, A: Allocator + Clone>(
+// Removes the values of a window whose last value is not a member, and returns the number of
+// members that are left.
+fn remove_others<T: Integer, A: Allocator + Clone>(
     runs: &mut Runs<T, A>,
-    range: Run<T>,
+    window: Run<T>,
     total: T::SafeLen,
 ) -> T::SafeLen
     requires kept { IsKept T.value_count runs.old (T.SafeLen.number total) }
-    requires order { T.rank range.start ≤ T.rank range.end }
-    requires value { T.rank range.end < T.value_count }
-    requires ends { IsFalse (members runs.old (T.rank range.end)) }
+    requires order { T.rank window.start ≤ T.rank window.end }
+    requires value { T.rank window.end < T.value_count }
+    requires ends { IsFalse (members runs.old (T.rank window.end)) }
     ensures kept { IsKept T.value_count runs.new (T.SafeLen.number result) }
-    ensures outside { IsSameOutside (run_of T.rank range) runs.old runs.new }
-    ensures none { IsEmpty (intersection (members runs.new) (covers (run_of T.rank range))) }
+    ensures outside { IsSameOutside (run_of T.rank window) runs.old runs.new }
+    ensures none { IsEmpty (intersection (members runs.new) (covers (run_of T.rank window))) }
 {
     let mut length = total;
-    while let Some(run) = last_meeting(runs, range) {
-        // No run extends past the range, so this does not allocate.
-        take_common(runs, run, range, &mut length).unwrap();
+    while let Some(run) = last_meeting(runs, window) {
+        // No run extends past the window, so this does not allocate.
+        remove_common(runs, run, window, &mut length).unwrap();
     }
     length
 }
 
-// Removes the values that a range has in common with the last run that it meets, and subtracts
+// Removes the values that a window has in common with the last run that it meets, and subtracts
 // their number from `length`.
-fn take_common<T: Integer, A: Allocator + Clone>(
+fn remove_common<T: Integer, A: Allocator + Clone>(
     runs: &mut Runs<T, A>,
     run: Run<T>,
-    range: Run<T>,
+    window: Run<T>,
     length: &mut T::SafeLen,
 ) -> Result<(), AllocError>
     requires kept { IsKept T.value_count runs.old (T.SafeLen.number length.old) }
-    requires order { T.rank range.start ≤ T.rank range.end }
-    requires value { T.rank range.end < T.value_count }
-    requires meets { IsLastMeeting runs.old (run_of T.rank range) (run_of T.rank run) }
-    ensures narrowed { OnOk result (IsNarrowed T.value_count (run_of T.rank range) runs.old runs.new
-        (T.SafeLen.number length.new)) }
+    requires order { T.rank window.start ≤ T.rank window.end }
+    requires value { T.rank window.end < T.value_count }
+    requires meets { IsLastMeeting runs.old (run_of T.rank window) (run_of T.rank run) }
+    ensures narrowed { OnOk result (IsNarrowed T.value_count (run_of T.rank window) runs.old
+        runs.new (T.SafeLen.number length.new)) }
     ensures fewer { OnOk result (T.SafeLen.number length.new < T.SafeLen.number length.old) }
     ensures err { OnErr result (runs.new ≡ runs.old) }
-    ensures succeeds { T.rank run.end ≤ T.rank range.end → IsOk result }
+    ensures succeeds { T.rank run.end ≤ T.rank window.end → IsOk result }
 {
-    let piece = common(run, range);
+    let piece = common(run, window);
     cut(runs, run, piece)?;
-    take_off_length(length, piece);
+    subtract_length(length, piece);
     Ok(())
 }
 
-// Returns the values that a run and a range have in common.
-fn common<T: Integer>(run: Run<T>, range: Run<T>) -> Run<T>
+// Returns the values that a run and a window have in common.
+fn common<T: Integer>(run: Run<T>, window: Run<T>) -> Run<T>
     requires run { (T.rank run.start < T.value_count) × (T.rank run.end < T.value_count) }
-    requires range { (T.rank range.start < T.value_count) × (T.rank range.end < T.value_count) }
-    ensures { IsCommon (run_of T.rank run) (run_of T.rank range) (run_of T.rank result) }
+    requires window { (T.rank window.start < T.value_count) × (T.rank window.end < T.value_count) }
+    ensures { IsCommon (run_of T.rank run) (run_of T.rank window) (run_of T.rank result) }
 {
-    let start = greater(run.start, range.start);
-    let end = if run.ends_before(range.end) {
+    let start = greater(run.start, window.start);
+    let end = if run.ends_before(window.end) {
         run.end
     } else {
-        range.end
+        window.end
     };
     Run { start, end }
 }

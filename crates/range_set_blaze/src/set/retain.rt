@@ -12,7 +12,7 @@ ghost use Rattle.rsb_storage.specs.Set.{IsSetOf, only};
 use crate::set::RangeSetBlaze;
 use rsb_integer::Integer;
 use rsb_storage::entries::next_run;
-use rsb_storage::lengths::take_off_length;
+use rsb_storage::lengths::subtract_length;
 use rsb_storage::run::{Run, reaches};
 use rsb_storage::runs::Runs;
 use std::alloc::{AllocError, Allocator};
@@ -86,8 +86,8 @@ fn retain_runs<T: Integer, A: Allocator, F: FnMut(&RangeInclusive<T>) -> bool>(
     let mut next = runs.first();
     while let Some(run) = next {
         if !f(&(run.start..=run.end)) {
-            take_off_length(&mut length, run);
-            runs.take(run.start);
+            subtract_length(&mut length, run);
+            runs.remove(run.start);
         }
         // The contract of a map's own `retain` does not say how a closure leaves the variables
         // that it captures and changes.

@@ -109,7 +109,7 @@ fn part_within<T: Integer, A: Allocator + Clone>(
             Ok(high)
         }
         Err(error) => {
-            runs.take(key);
+            runs.remove(key);
             Err(error)
         }
     }

@@ -8,7 +8,7 @@ ghost use Rattle.rsb_storage.specs.Storage.{run_of};
 ghost use Rattle.rsb_storage.specs.Starts.{without_start};
 
 use rsb_integer::Integer;
-use rsb_storage::lengths::take_off_length;
+use rsb_storage::lengths::subtract_length;
 use rsb_storage::run::Run;
 use rsb_storage::runs::Runs;
 use std::alloc::Allocator;
@@ -17,7 +17,7 @@ use std::alloc::Allocator;
 /// remaining runs, not counting those of `run`. `last` is one of the runs to remove, if there are
 /// any, and `before` is another one, if there are more, and starts before `last`. `total` is the
 /// number of members of all runs except `run` before the call.
-pub(crate) fn take_in<T: Integer, A: Allocator>(
+pub(crate) fn remove_swallowed<T: Integer, A: Allocator>(
     runs: &mut Runs<T, A>,
     run: Run<T>,
     last: Option<Run<T>>,
@@ -35,32 +35,32 @@ pub(crate) fn take_in<T: Integer, A: Allocator>(
     let Some(last) = last else {
         return others;
     };
-    take_inside(runs, run, last, &mut others);
+    remove_inside(runs, run, last, &mut others);
     let mut next = before;
-    while let Some(taken) = next {
-        take_inside(runs, run, taken, &mut others);
+    while let Some(inside) = next {
+        remove_inside(runs, run, inside, &mut others);
         next = last_inside(runs, run);
     }
     others
 }
 
 // Removes a run that starts inside another, and subtracts its length from `others`.
-fn take_inside<T: Integer, A: Allocator>(
+fn remove_inside<T: Integer, A: Allocator>(
     runs: &mut Runs<T, A>,
     run: Run<T>,
-    taken: Run<T>,
+    inside: Run<T>,
     others: &mut T::SafeLen,
 )
     requires over { IsOver T.value_count runs.old (run_of T.rank run)
         (T.SafeLen.number others.old) }
-    requires inside { IsInside runs.old (run_of T.rank run) (run_of T.rank taken) }
+    requires inside { IsInside runs.old (run_of T.rank run) (run_of T.rank inside) }
     ensures over { IsOver T.value_count runs.new (run_of T.rank run) (T.SafeLen.number others.new) }
     ensures members { (rank : ℕ) → members runs.new rank ≡ members runs.old rank }
-    ensures left { runs.new ≡ without_start (T.rank taken.start) runs.old }
+    ensures left { runs.new ≡ without_start (T.rank inside.start) runs.old }
     ensures fewer { T.SafeLen.number others.new < T.SafeLen.number others.old }
 {
-    take_off_length(others, taken);
-    runs.take(taken.start);
+    subtract_length(others, inside);
+    runs.remove(inside.start);
 }
 
 // Returns the last run that starts inside `run`, past its start, or `None` if there is none.

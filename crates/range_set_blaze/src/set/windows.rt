@@ -1,5 +1,5 @@
-//! The part of a set between two bounds: its runs, its gaps, how many members it has, and whether it
-//! has all values or none.
+//! The part of a set between two bounds: its runs, its gaps, the number of its members, and whether
+//! it has all values or none.
 
 ghost use Rattle.std.specs.Prelude.{◌≡◌, ◌↔◌, ◌<◌, ◌≤◌, IsTrue};
 ghost use Rattle.rsb_integer.specs.Rank.{intervals_of};
@@ -93,7 +93,7 @@ impl<T: Integer, A: Allocator> RangeSetBlaze<T, A> {
             (ranks_in T.rank T.value_count R.start_bound R.end_bound range)) }
     {
         match run_between(&range) {
-            Some(run) => has_run(&self.runs, run),
+            Some(window) => has_run(&self.runs, window),
             None => true,
         }
     }
@@ -109,32 +109,32 @@ impl<T: Integer, A: Allocator> RangeSetBlaze<T, A> {
             (ranks_in T.rank T.value_count R.start_bound R.end_bound range))) }
     {
         match run_between(&range) {
-            Some(run) => lacks_run(&self.runs, run),
+            Some(window) => lacks_run(&self.runs, window),
             None => true,
         }
     }
 }
 
-// Returns whether every value of a range is a member.
-fn has_run<T: Integer, A: Allocator>(runs: &Runs<T, A>, range: Run<T>) -> bool
+// Returns whether every value of a window is a member.
+fn has_run<T: Integer, A: Allocator>(runs: &Runs<T, A>, window: Run<T>) -> bool
     requires canonical { IsCanonicalIn T.value_count runs.now }
-    requires order { T.rank range.start ≤ T.rank range.end }
-    requires value { T.rank range.end < T.value_count }
-    ensures { IsTrue result ↔ HasAll runs.now (covers (run_of T.rank range)) }
+    requires order { T.rank window.start ≤ T.rank window.end }
+    requires value { T.rank window.end < T.value_count }
+    ensures { IsTrue result ↔ HasAll runs.now (covers (run_of T.rank window)) }
 {
-    match runs.up_to(range.start) {
-        Some(run) => !run.ends_before(range.end),
+    match runs.up_to(window.start) {
+        Some(run) => !run.ends_before(window.end),
         None => false,
     }
 }
 
-// Returns whether no value of a range is a member.
-fn lacks_run<T: Integer, A: Allocator>(runs: &Runs<T, A>, range: Run<T>) -> bool
+// Returns whether no value of a window is a member.
+fn lacks_run<T: Integer, A: Allocator>(runs: &Runs<T, A>, window: Run<T>) -> bool
     requires canonical { IsCanonicalIn T.value_count runs.now }
-    requires order { T.rank range.start ≤ T.rank range.end }
-    requires value { T.rank range.end < T.value_count }
+    requires order { T.rank window.start ≤ T.rank window.end }
+    requires value { T.rank window.end < T.value_count }
     ensures { IsTrue result ↔ IsEmpty (intersection (members runs.now)
-        (covers (run_of T.rank range))) }
+        (covers (run_of T.rank window))) }
 {
-    last_meeting(runs, range).is_none()
+    last_meeting(runs, window).is_none()
 }

@@ -86,8 +86,10 @@ impl<'a, T: Integer + 'a, A: Allocator + Clone> Extend<&'a RangeInclusive<T>>
     }
 }
 
-/// An iterator over ranges, from one over references to ranges. Each has the members of a range that the inner iterator gives by
-/// reference.
+/// An iterator over ranges, from one over references to ranges. Each range has the members of the
+/// one that the inner iterator gives.
+// The contract of `cloned` would require that each clone succeeds. The bound `T: Copy` does not
+// guarantee this, nor that a clone equals its original.
 #[derive(Drop)]
 pub(crate) struct LentRanges<I> {
     ranges: I,

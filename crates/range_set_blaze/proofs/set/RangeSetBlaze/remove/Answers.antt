@@ -9,5 +9,5 @@ returns-clause-run_count g c =
     let kept = rw c.in-Some.is at c.in_ok-length.ensures.kept in
     let removed = (rw (c.in-Some.is, c.known.ensures.same) at c.in_ok-length.ensures.removed) refl in
     rw (← c.self.view_is) (run_count-removed g.T.Integer.value_count
-    c.self.inside.runs c.take_value.new.runs
+    c.self.inside.runs c.remove_value.new.runs
     c.self.invariant.canonical kept.canonical (rank c.args.value) c.known.ensures.value removed)

@@ -12,31 +12,31 @@ use Rattle.range_set_blaze.proofs.set.RangeSetBlaze.remove_run.Goals as goal
 pub returns-clause-run_count : goal.returns-clause-run_count
 returns-clause-run_count g c =
     let rank = g.T.Integer.rank in
-    let kept = rw c.in-Some.is at c.in_ok-length.ensures.kept in
-    let removed = (rw c.in-Some.is at c.in_ok-length.ensures.removed) refl in
+    let kept = rw c.in-Some.is at c.in_ok-length.ensures.found.kept in
+    let removed = (rw c.in-Some.is at c.in_ok-length.ensures.found.removed) refl in
     rw (← c.self.view_is) (run_count-without g.T.Integer.value_count
-    c.self.inside.runs c.take_range.new.runs
+    c.self.inside.runs c.remove_window.new.runs
     c.self.invariant.canonical kept.canonical (run_of rank c.args.run) c.requires.order
     c.requires.value removed)
 
 -- If some value of the run was a member, all are removed.
 pub returns-clause-members : goal.returns-clause-members
 returns-clause-members g c =
-    let removed = (rw c.in-Some.is at c.in_ok-length.ensures.removed) refl in
+    let removed = (rw c.in-Some.is at c.in_ok-length.ensures.found.removed) refl in
     rw (← c.self.view_is) removed
 
 -- Otherwise the runs are unchanged.
 pub returns-in_default-clause-members : goal.returns-in_default-clause-members
 returns-in_default-clause-members g c =
     let run = run_of g.T.Integer.rank c.args.run in
-    let same = (rw c.in_default.is at c.in_ok-length.ensures.unchanged) refl in
-    let none = (rw c.in_default.is at c.in_ok-length.ensures.none) refl in
+    let same = (rw c.in_default.is at c.in_ok-length.ensures.found.unchanged) refl in
+    let none = (rw c.in_default.is at c.in_ok-length.ensures.found.none) refl in
     rw (← c.self.view_is) (subst (λ new. Removes c.self.inside.runs new (covers run)) (sym same)
     (removes-nothing c.self.inside.runs run none))
 
 pub returns-in_default-clause-removed : goal.returns-in_default-clause-removed
 returns-in_default-clause-removed g c =
-    let none = (rw c.in_default.is at c.in_ok-length.ensures.none) refl in
+    let none = (rw c.in_default.is at c.in_ok-length.ensures.found.none) refl in
     rw (← c.self.view_is) (
       (λ is. absurd (true≢false (sym is))),
       (λ some. absurd (some-common _ (run_of g.T.Integer.rank c.args.run) none some)),

@@ -29,8 +29,8 @@ returns-in_err-put-clause-succeeds g c some =
     let fails = c.in_err-put.ensures.succeeds there.0 there.1 there.2 in absurd (cc)
 
 -- After the insertion, the joined run is over the others, as `IsOver` states.
-pub take_in-length-requires-clause-over : goal.take_in-length-requires-clause-over
-take_in-length-requires-clause-over g c =
+pub remove_swallowed-length-requires-clause-over : goal.remove_swallowed-length-requires-clause-over
+remove_swallowed-length-requires-clause-over g c =
     subst (λ (runs : List Interval). IsOver g.T.Integer.value_count runs
     (run_of g.T.Integer.rank c.args.joining.joined)
     (g.T.SafeLen.SafeLength.number c.without-others.result)) (sym c.in_ok-put.ensures.runs)
@@ -38,8 +38,8 @@ take_in-length-requires-clause-over g c =
     (first-counted _ _ _ c.requires.kept.canonical c.args.joining c.requires.joining _ _
     c.requires.kept.length c.without-others.ensures))
 
-pub take_in-length-requires-clause-inside : goal.take_in-length-requires-clause-inside
-take_in-length-requires-clause-inside g c =
+pub remove_swallowed-length-requires-clause-inside : goal.remove_swallowed-length-requires-clause-inside
+remove_swallowed-length-requires-clause-inside g c =
     subst (λ (runs : List Interval). KnowsInside g.T.Integer.rank runs
     (run_of g.T.Integer.rank c.args.joining.joined) c.args.joining.last c.args.joining.before)
     (sym c.in_ok-put.ensures.runs)
@@ -49,17 +49,17 @@ take_in-length-requires-clause-inside g c =
 pub add_length-requires-clause-fits : goal.add_length-requires-clause-fits
 add_length-requires-clause-fits g c =
     let within = count-within g.T.Integer.value_count
-    (members c.take_in-length.new.runs) in
-    omega (arith, within, c.take_in-length.ensures.counted)
+    (members c.remove_swallowed-length.new.runs) in
+    omega (arith, within, c.remove_swallowed-length.ensures.counted)
 
 pub returns-clause-kept : goal.returns-clause-kept
 returns-clause-kept g c = record {
-  canonical = c.take_in-length.ensures.canonical;
-  length = c.add_length.ensures ∙ sym c.take_in-length.ensures.counted;
+  canonical = c.remove_swallowed-length.ensures.canonical;
+  length = c.add_length.ensures ∙ sym c.remove_swallowed-length.ensures.counted;
 }
 
 pub returns-clause-adds : goal.returns-clause-adds
 returns-clause-adds g c rank =
-    c.take_in-length.ensures.members rank
+    c.remove_swallowed-length.ensures.members rank
     ∙ ap (λ (runs : List Interval). members runs rank) c.in_ok-put.ensures.runs
     ∙ joining-members _ _ _ c.requires.kept.canonical c.args.joining c.requires.joining rank

@@ -49,7 +49,7 @@ loop-run-preserved g c =
     left-next _ c.args.runs.now
     (runs_of rank c.next_run.new.entries) (run_of rank c.in-Some.run') _ _
     (rw c.in-Some.ensures at c.loop-run.invariant) _
-    (omega (arith, c.take_off.ensures, c.length_of_run-length.ensures))
+    (omega (arith, c.subtract.ensures, c.length_of_run-length.ensures))
 
 -- If no run is left, the set has at most n members.
 pub returns-clause-none : goal.returns-clause-none

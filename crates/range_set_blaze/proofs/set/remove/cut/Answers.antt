@@ -33,7 +33,7 @@ pub returns-else-starts_before-clause-removed : goal.returns-else-starts_before-
 returns-else-starts_before-clause-removed g c =
     let rank = g.T.Integer.rank in
     subst (λ runs. IsRemoved g.T.Integer.value_count c.args.runs.now runs
-    (run_of rank c.args.piece)) (sym c.take.ensures)
+    (run_of rank c.args.piece)) (sym c.remove.ensures)
     (cut-none _ _ c.requires.canonical _ c.requires.among _
     (omega (arith, c.requires.from, c.requires.order)) c.requires.to _ c.requires.from
     c.requires.order _ c.in_ok-put_above.ensures.above

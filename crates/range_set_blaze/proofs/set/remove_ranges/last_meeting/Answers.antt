@@ -7,12 +7,12 @@ use Rattle.range_set_blaze.proofs.set.remove_ranges.last_meeting.Goals as goal
 pub returns-in_err-run : goal.returns-in_err-run
 returns-in_err-run g c =
     rw c.from_residual.ensures (none-meets _ _ c.requires.canonical
-    (run_of g.T.Integer.rank c.args.range) c.in_err-run.ensures)
+    (run_of g.T.Integer.rank c.args.window) c.in_err-run.ensures)
 
 -- If the last of those runs ends before the range, none meets it.
 pub returns-then-ends_before : goal.returns-then-ends_before
 returns-then-ends_before g c =
-    last-before _ _ c.requires.canonical (run_of g.T.Integer.rank c.args.range) _
+    last-before _ _ c.requires.canonical (run_of g.T.Integer.rank c.args.window) _
     c.in_ok-run.ensures (c.ends_before.ensures.0 c.if-ends_before.true)
 
 -- Otherwise that run has a value of the range.

@@ -32,8 +32,8 @@ f-requires g c =
     c.requires.kept.canonical range.start range.end range.exhausted)
 
 -- The next run is still one of the runs of the map.
-pub take_off_length-requires : goal.take_off_length-requires
-take_off_length-requires g c =
+pub subtract_length-requires : goal.subtract_length-requires
+subtract_length-requires g c =
     let counted = c.loop-next.invariant.counted in
     let within = count-within g.T.Integer.value_count
     (members c.loop-next.runs) in
@@ -44,8 +44,8 @@ take_off_length-requires g c =
       counted = omega (arith, joined.counted, counted);
     }
 
-pub take-requires : goal.take-requires
-take-requires g c =
+pub remove-requires : goal.remove-requires
+remove-requires g c =
     let maximal = next-maximal _ _ _ _ _ c.in-Some.is c.loop-next.invariant in
     omega (arith, maximal.in_order, maximal.in_type)
 
@@ -59,8 +59,8 @@ loop-next-preserved g c =
     let after = retaining-next _ _ _ _ _ c.in-Some.is c.loop-next.invariant c.f.result in
     elim c.if-not-f.branch [
       | then-not-f w ↦
-          after _ _ _ _ _ (rw (w.if-not-f.true, w.runs-is) w.take.ensures)
-          (rw (w.if-not-f.true, w.length-is) w.take_off_length.ensures)
+          after _ _ _ _ _ (rw (w.if-not-f.true, w.runs-is) w.remove.ensures)
+          (rw (w.if-not-f.true, w.length-is) w.subtract_length.ensures)
           range.start range.end range.exhausted c.after-next.ensures c.f.ensures
       | else-not-f w ↦
           after _ _ _ _ _ (rw (w.if-not-f.false, w.runs-is) refl)

@@ -36,7 +36,7 @@ returns-in-Ok-clause-parting g c =
 
 pub returns-in-Err-clause-err : goal.returns-in-Err-clause-err
 returns-in-Err-clause-err g c =
-    c.take.ensures
+    c.remove.ensures
     ∙ ap (without_start (g.T.Integer.rank c.args.key))
     (c.in-Err.ensures.err ∙ c.in_ok-put.ensures.runs)
     ∙ within-without _ _ c.requires.canonical _ (run_of g.T.Integer.rank c.args.run)

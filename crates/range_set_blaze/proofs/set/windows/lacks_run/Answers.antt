@@ -27,6 +27,6 @@ none-told rank n runs canonical range order (Some run) false is meets = (
 
 pub returns : goal.returns
 returns g c =
-    none-told g.T.Integer.rank _ _ c.requires.canonical (run_of g.T.Integer.rank c.args.range)
+    none-told g.T.Integer.rank _ _ c.requires.canonical (run_of g.T.Integer.rank c.args.window)
     c.requires.order c.last_meeting.result c.is_none.result c.is_none.ensures
     c.last_meeting.ensures

@@ -1,7 +1,7 @@
 use Rattle.std.proofs.Common.{◌+◌, ◌∙◌, ap, arith, subst, sym}
 use Rattle.rsb_integer.specs.Runs.{length_of, HasRanks}
 use Rattle.rsb_integer.proofs.lemmas.Range.{interval_of-ends}
-use Rattle.rsb_storage.proofs.lengths.take_off_length.Goals as goal
+use Rattle.rsb_storage.proofs.lengths.subtract_length.Goals as goal
 
 -- The range has the values of the run.
 pub safe_len-requires : goal.safe_len-requires

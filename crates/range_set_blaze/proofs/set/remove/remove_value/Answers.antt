@@ -6,7 +6,7 @@ use Rattle.rsb_integer.proofs.lemmas.List.{not_both}
 use Rattle.range_set_blaze.proofs.lemmas.removal.Cuts.{removes-only}
 use Rattle.rsb_storage.proofs.lemmas.runs.Apart.{contained-members, last-gap, none-gap}
 use Rattle.rsb_storage.proofs.lemmas.runs.Storage.{lt-fails}
-use Rattle.range_set_blaze.proofs.set.remove.take_value.Goals as goal
+use Rattle.range_set_blaze.proofs.set.remove.remove_value.Goals as goal
 
 -- If no run starts at or before the value, it is not a member.
 pub returns-in_default-clause-none : goal.returns-in_default-clause-none
@@ -48,8 +48,8 @@ returns-in_err-cut-clause-succeeds g c last =
     ]
 
 -- The number of members is at most the size of the type.
-pub take_off_length-requires-clause-fits : goal.take_off_length-requires-clause-fits
-take_off_length-requires-clause-fits g c =
+pub subtract_length-requires-clause-fits : goal.subtract_length-requires-clause-fits
+subtract_length-requires-clause-fits g c =
     let within = count-within g.T.Integer.value_count
     (members c.args.runs.now) in
     omega (arith, within, c.requires.kept.length)

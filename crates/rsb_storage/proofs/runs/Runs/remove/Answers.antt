@@ -3,7 +3,7 @@ use Rattle.rsb_storage.specs.Storage.{runs_of}
 use Rattle.rsb_storage.specs.Starts.{StartsAscendFrom}
 use Rattle.rsb_storage.proofs.lemmas.runs.Maps.{runs-remove_entry}
 use Rattle.rsb_storage.proofs.lemmas.runs.Starts.{starting-ascending}
-use Rattle.rsb_storage.proofs.runs.Runs.take.Goals as goal
+use Rattle.rsb_storage.proofs.runs.Runs.remove.Goals as goal
 
 -- The entry with this start is removed.
 pub returns : goal.returns

@@ -2,7 +2,7 @@ use Rattle.std.proofs.Common.{arith}
 use Rattle.rsb_integer.specs.Runs.{members}
 use Rattle.rsb_integer.proofs.lemmas.Count.{count-within}
 use Rattle.range_set_blaze.proofs.lemmas.removal.Meeting.{meeting-value, piece-ends, piece-from, piece-order, piece-to, taken-counted, taken-ends, taken-outside}
-use Rattle.range_set_blaze.proofs.set.remove_ranges.take_common.Goals as goal
+use Rattle.range_set_blaze.proofs.set.remove_ranges.remove_common.Goals as goal
 
 -- The run starts and ends within the type.
 pub common-piece-requires-clause-run : goal.common-piece-requires-clause-run
@@ -35,19 +35,19 @@ returns-in_err-cut-clause-succeeds g c within =
     absurd (cc)
 
 -- The piece is non-empty, and its members are counted.
-pub take_off_length-requires-clause-some : goal.take_off_length-requires-clause-some
-take_off_length-requires-clause-some g c =
+pub subtract_length-requires-clause-some : goal.subtract_length-requires-clause-some
+subtract_length-requires-clause-some g c =
     piece-order _ _ c.requires.kept.canonical _ _ c.requires.order c.requires.meets _
     c.common-piece.ensures
 
-pub take_off_length-requires-clause-fits : goal.take_off_length-requires-clause-fits
-take_off_length-requires-clause-fits g c =
+pub subtract_length-requires-clause-fits : goal.subtract_length-requires-clause-fits
+subtract_length-requires-clause-fits g c =
     let within = count-within g.T.Integer.value_count
     (members c.args.runs.now) in
     omega (arith, within, c.requires.kept.length)
 
-pub take_off_length-requires-clause-counted : goal.take_off_length-requires-clause-counted
-take_off_length-requires-clause-counted g c =
+pub subtract_length-requires-clause-counted : goal.subtract_length-requires-clause-counted
+subtract_length-requires-clause-counted g c =
     let counted = taken-counted _ _ c.requires.kept.canonical _ _ c.requires.order c.requires.meets _
     c.common-piece.ensures _ c.in_ok-cut.ensures.removed in
     omega (arith, counted, c.requires.kept.length)
@@ -62,7 +62,7 @@ returns-clause-narrowed g c =
         length = omega (
           arith,
           removed.counted,
-          c.take_off_length.ensures,
+          c.subtract_length.ensures,
           c.requires.kept.length,
         );
       };
@@ -76,4 +76,4 @@ pub returns-clause-fewer : goal.returns-clause-fewer
 returns-clause-fewer g c =
     let some = piece-order _ _ c.requires.kept.canonical _ _ c.requires.order c.requires.meets _
     c.common-piece.ensures in
-    omega (arith, some, c.take_off_length.ensures)
+    omega (arith, some, c.subtract_length.ensures)

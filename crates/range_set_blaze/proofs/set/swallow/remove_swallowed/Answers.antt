@@ -4,7 +4,7 @@ use Rattle.range_set_blaze.specs.Joining.{IsInside, KnowsInside, NoneInside}
 use Rattle.rsb_storage.specs.Storage.{run_of}
 use Rattle.rsb_storage.specs.declared.run.Run.{Run}
 use Rattle.range_set_blaze.proofs.lemmas.insertion.TakingIn.{over-joined, without-inside}
-use Rattle.range_set_blaze.proofs.set.swallow.take_in.Goals as goal
+use Rattle.range_set_blaze.proofs.set.swallow.remove_swallowed.Goals as goal
 
 -- If no run starts inside the joined one, the runs are canonical.
 pub returns-in_default-clause-canonical : goal.returns-in_default-clause-canonical
@@ -26,10 +26,10 @@ loop-next-init g c =
     let rank = g.T.Integer.rank in
     let joined = run_of rank c.args.run in
     let old = c.args.runs.now in (
-      c.take_inside.ensures.over,
-      c.take_inside.ensures.members,
+      c.remove_inside.ensures.over,
+      c.remove_inside.ensures.members,
       subst (λ (runs : List Interval). MatchOption c.args.before (NoneInside runs joined)
-          (λ run. IsInside runs joined (run_of rank run))) (sym c.take_inside.ensures.left)
+          (λ run. IsInside runs joined (run_of rank run))) (sym c.remove_inside.ensures.left)
           (without-inside rank old joined c.in-Some.last c.args.before
           (subst (λ (last : Option (Run g.row.T.Denot)). KnowsInside rank old joined last c.args.before)
           c.in-Some.is c.requires.inside)),

@@ -4,7 +4,7 @@ use Rattle.std.proofs.Common.{◌≡◌, ℕ, MatchOption}
 use Rattle.rsb_integer.specs.Runs.{members}
 use Rattle.range_set_blaze.specs.Joining.{IsInside, IsOver, NoneInside}
 use Rattle.rsb_storage.specs.Storage.{run_of}
-use Rattle.range_set_blaze.proofs.set.swallow.take_in.Given as goal
+use Rattle.range_set_blaze.proofs.set.swallow.remove_swallowed.Given as goal
 
 abbrev pub invariant-loop-next : goal.invariant-loop-next
 invariant-loop-next g l =
