@@ -14,11 +14,8 @@ pub fn last_run<T: Integer>(entries: &mut Range<'_, T, T>) -> Option<Run<T>>
         (λ run. entries.old ≡ entries.new ++ entry_of run ∷ []) }
     ensures none { IsNone result → entries.new ≡ [] }
 {
-    let (start, end) = entries.next_back()?;
-    Some(Run {
-        start: *start,
-        end: *end,
-    })
+    let entry = entries.next_back()?;
+    Some(Run::of_entry(entry))
 }
 
 /// Removes the first of the entries and returns its run, or returns `None` if there are no entries.
@@ -26,11 +23,8 @@ pub fn next_run<T: Copy>(entries: &mut Iter<'_, T, T>) -> Option<Run<T>>
     ensures { MatchOption result (entries.old ≡ [])
         (λ run. entries.old ≡ entry_of run ∷ entries.new) }
 {
-    let (start, end) = entries.next()?;
-    Some(Run {
-        start: *start,
-        end: *end,
-    })
+    let entry = entries.next()?;
+    Some(Run::of_entry(entry))
 }
 
 /// Does the same as `next_run`, for the entries of a range of keys.
@@ -40,9 +34,6 @@ pub fn next_in_range<T: Integer>(entries: &mut Range<'_, T, T>) -> Option<Run<T>
         (λ run. entries.old ≡ entry_of run ∷ entries.new) }
     ensures none { IsNone result → entries.new ≡ [] }
 {
-    let (start, end) = entries.next()?;
-    Some(Run {
-        start: *start,
-        end: *end,
-    })
+    let entry = entries.next()?;
+    Some(Run::of_entry(entry))
 }

@@ -18,6 +18,31 @@ pub struct Run<T> {
     pub end: T,
 }
 
+impl<T: Copy> Run<T> {
+    /// Returns the run of an entry of the map.
+    pub fn of_entry(pair: (&T, &T)) -> Self
+        ensures start { result.start ≡ pair.entry.0.now }
+        ensures end { result.end ≡ pair.entry.1.now }
+    {
+        let (start, end) = pair;
+        Run {
+            start: *start,
+            end: *end,
+        }
+    }
+
+    /// Returns the run of only one value.
+    pub fn only(value: T) -> Self
+        ensures start { result.start ≡ value }
+        ensures end { result.end ≡ value }
+    {
+        Run {
+            start: value,
+            end: value,
+        }
+    }
+}
+
 impl<T: Integer> Run<T> {
     /// Returns whether the run starts below a value.
     pub fn starts_before(self, value: T) -> bool

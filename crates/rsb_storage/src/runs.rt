@@ -74,11 +74,8 @@ impl<T: Integer, A: Allocator> Runs<T, A> {
         ensures { MatchOption result (self.now ≡ [])
             (λ run. StartsWith self.now (run_of T.rank run)) }
     {
-        let (start, end) = self.map.first_key_value()?;
-        Some(Run {
-            start: *start,
-            end: *end,
-        })
+        let entry = self.map.first_key_value()?;
+        Some(Run::of_entry(entry))
     }
 
     /// Returns the last run, or `None` if there is none.
@@ -87,11 +84,8 @@ impl<T: Integer, A: Allocator> Runs<T, A> {
         ensures last { IfSome result (λ run. slice_get self.now (length self.now - 1)
             ≡ Some (run_of T.rank run)) }
     {
-        let (start, end) = self.map.last_key_value()?;
-        Some(Run {
-            start: *start,
-            end: *end,
-        })
+        let entry = self.map.last_key_value()?;
+        Some(Run::of_entry(entry))
     }
 
     /// Returns the entries of the runs in ascending order.

@@ -120,10 +120,7 @@ fn remove_value<T: Integer, A: Allocator + Clone>(
     if run.ends_before(value) {
         return Ok(None);
     }
-    let piece = Run {
-        start: value,
-        end: value,
-    };
+    let piece = Run::only(value);
     cut(runs, run, piece)?;
     let mut length = total;
     subtract_length(&mut length, piece);

@@ -165,10 +165,7 @@ fn grow<T: Integer, A: Allocator + Clone>(
         ≡ union (with_piece T.rank kept.old piece) (only (T.rank value)) rank) }
 {
     let Some(run) = piece else {
-        return Ok(Run {
-            start: value,
-            end: value,
-        });
+        return Ok(Run::only(value));
     };
     if reaches(run.end, value) {
         return Ok(Run {
@@ -177,10 +174,7 @@ fn grow<T: Integer, A: Allocator + Clone>(
         });
     }
     kept.insert_run(run)?;
-    Ok(Run {
-        start: value,
-        end: value,
-    })
+    Ok(Run::only(value))
 }
 
 // Inserts the last piece into the set, if there is one.
