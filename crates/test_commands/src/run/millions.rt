@@ -117,7 +117,7 @@ fn shows_many(reply: Option<&Reply<i32>>, value: i32) -> bool {
 }
 
 // In the checked build of `rt try --test` this takes more than a minute: `--seconds 400` lets it
-// end.
+// end. So `tools/test` shows only the 20,000 runs of `a_hundred_thousand_lines_are_answered`.
 #[test]
 fn a_million_runs_are_shown(rt: HostRuntime) -> Result<(), Fail> {
     let commands = many_additions(rt.alloc(), SetNo::new(7).expect(&rt, "a slot"))?;

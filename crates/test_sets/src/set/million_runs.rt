@@ -1,6 +1,7 @@
 //! The loops over sets, at more than a million runs or values. No loop gives up at a size.
 //!
-//! The checked build of `rt try --test` takes minutes here, and `--seconds 900` lets it finish.
+//! The checked build of `rt try --test` takes minutes here, and `--seconds 900` lets it finish. So
+//! `tools/test` runs the same calls only on seventy thousand runs, here and in `many_runs`.
 
 use crate::set::calls::{Change, Making};
 use crate::set::many_runs::{change, counts, makes};
@@ -10,7 +11,7 @@ use crate::set::rows::{
 use range_set_blaze::{DrawDisjoint, RangeSetBlaze};
 use std::alloc::{AllocError, Global};
 use std::test::*;
-use test_support::fed_by;
+use test_support::{every_fifth, fed_by};
 
 /// Returns a million and a hundred values, four apart, starting at `first`.
 fn fourths(alloc: Global, first: i32) -> Result<RangeSetBlaze<i32>, AllocError> {
@@ -70,12 +71,12 @@ fn a_million_runs_are_changed(rt: HostRuntime) -> Result<(), Fail> {
     Ok(())
 }
 
-/// Whether a set gives a million runs, and as many elements from either end.
-fn are_listed(set: &RangeSetBlaze<i32>) -> bool {
-    ranges_given(set) == 1_000_100
-        && elements_given(set) == 1_000_100
-        && elements_given_back(set) == 1_000_100
-        && set.ranges().members_len() == 1_000_100
+/// Whether a set gives this number of runs, and this number of elements from either end.
+fn are_listed(set: &RangeSetBlaze<i32>, count: usize, members: u64) -> bool {
+    ranges_given(set) == count
+        && elements_given(set) == members
+        && elements_given_back(set) == members
+        && set.ranges().members_len() == members
 }
 
 /// Returns the number of elements between two bounds.
@@ -87,7 +88,7 @@ fn elements_between(set: &RangeSetBlaze<i32>) -> Result<u64, AllocError> {
     Ok(between)
 }
 
-/// Whether two equal sets of a million runs are equal by each call that reads both.
+/// Whether two equal sets are equal by each call that reads both.
 fn are_equal(set: &RangeSetBlaze<i32>, copy: &RangeSetBlaze<i32>) -> bool {
     set == copy
         && set.cmp(copy).is_eq()
@@ -100,10 +101,21 @@ fn are_equal(set: &RangeSetBlaze<i32>, copy: &RangeSetBlaze<i32>) -> bool {
 fn a_million_runs_are_listed_compared_and_hashed(rt: HostRuntime) -> Result<(), Fail> {
     let set = fourths(rt.alloc(), 0)?;
     let copy = set.clone()?;
-    assert!(rt; are_listed(&set) && are_equal(&set, &copy));
+    assert!(rt; are_listed(&set, 1_000_100, 1_000_100) && are_equal(&set, &copy));
     assert!(rt; set.is_disjoint(&fourths(rt.alloc(), 2)?));
     assert!(rt; elements_between(&set)? == 1_000_100);
     assert!(rt; elements_given_up(set) == 1_000_100 && ranges_given_up(copy) == 1_000_100);
+    Ok(())
+}
+
+#[test]
+fn seventy_thousand_runs_are_listed_compared_and_hashed(rt: HostRuntime) -> Result<(), Fail> {
+    let set = every_fifth(rt.alloc(), 0, 2)?;
+    let copy = set.clone()?;
+    assert!(rt; are_listed(&set, 70_000, 210_000) && are_equal(&set, &copy));
+    assert!(rt; set.is_disjoint(&every_fifth(rt.alloc(), 3, 0)?));
+    assert!(rt; elements_between(&set)? == 210_000);
+    assert!(rt; elements_given_up(set) == 210_000 && ranges_given_up(copy) == 70_000);
     Ok(())
 }
 
