@@ -1,4 +1,4 @@
-//! Why the program exits with a status other than 0 (docs/DECISIONS.md, failures-untold).
+//! Why the program exits with a status other than 0 (docs/DECISIONS.md, failures-unstated).
 
 ghost use Rattle.std.specs.Prelude.{◌≡◌, Some};
 ghost use Rattle.rsb_command_parser.specs.declared.fault.Fault.TheVariants.{NoMemory};
