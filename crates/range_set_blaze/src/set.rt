@@ -144,9 +144,3 @@ impl<T: Integer, A: Allocator> RangeSetBlaze<T, A> {
         self.length = T::SafeLen::zero();
     }
 }
-
-/// The list of ranges of every set is the ascending list of all maximal runs of its members. It
-/// holds after any sequence of calls, for every element type. Not in range-set-blaze.
-pub fn ranges_are_maximal_runs<T: Integer, A: Allocator>(set: &RangeSetBlaze<T, A>)
-    ensures { AreRuns T.value_count (members set.now) set.now }
-{}

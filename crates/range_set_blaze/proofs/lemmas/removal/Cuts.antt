@@ -140,9 +140,9 @@ module _ (n : ℕ) (runs : List Interval) (canonical : IsCanonicalIn n runs) (ru
           counted = omega (arith, rest, all, starts, order, to, less);
         }
 
--- Removing a piece of one rank removes only that rank.
-pub removes-only : (old new : List Interval) (point : ℕ)
-    → Removes old new (covers (from_to point point)) → Removes old new (only point)
-removes-only old new point removes rank =
-    let same : covers (from_to point point) rank ≡ only point rank = grind (arith, nat_tests) in
+-- Removing a piece whose ends are one rank removes only that rank.
+pub removes-only : (old new : List Interval) (first last point : ℕ) → first ≡ point → last ≡ point
+    → Removes old new (covers (from_to first last)) → Removes old new (only point)
+removes-only old new first last point starts ends removes rank =
+    let same : covers (from_to first last) rank ≡ only point rank = grind (arith, nat_tests) in
     removes rank ∙ ap (λ test. members old rank && not test) same

@@ -1,4 +1,4 @@
-use Rattle.std.proofs.Common.{◌+◌, arith, inl, inr}
+use Rattle.std.proofs.Common.{◌+◌, ap, arith, inl, inr}
 use Rattle.std.proofs.lemmas.Bool.{cases_lt}
 use Rattle.rsb_integer.specs.Runs.{members}
 use Rattle.rsb_integer.proofs.lemmas.Count.{count-within}
@@ -44,7 +44,10 @@ returns-in_err-cut-clause-succeeds g c last =
           (rank c.args.value + 1))
           (contained-members _ _ c.requires.kept.canonical _ _ c.in-Some.ensures.among
           (omega (arith, starts)) (omega (arith, more))) last)
-      | inr less ↦ let fails = c.in_err-cut.ensures.succeeds less in absurd (cc)
+      | inr less ↦
+          let fails = c.in_err-cut.ensures.succeeds
+          (omega (arith, less, ap rank c.only-piece.ensures.end)) in
+          absurd (cc)
     ]
 
 -- The number of members is at most the size of the type.
@@ -57,4 +60,7 @@ subtract_length-requires-clause-fits g c =
 -- Only the value is removed.
 pub returns-clause-removed : goal.returns-clause-removed
 returns-clause-removed g c some =
-    removes-only _ _ (g.T.Integer.rank c.args.value) c.in_ok-cut.ensures.removed.removes
+    let rank = g.T.Integer.rank in
+    removes-only _ _ (rank c.only-piece.result.start) (rank c.only-piece.result.end)
+    (rank c.args.value) (ap rank c.only-piece.ensures.start) (ap rank c.only-piece.ensures.end)
+    c.in_ok-cut.ensures.removed.removes

@@ -1,4 +1,4 @@
-use Rattle.std.proofs.Common.{refl, sym, tt}
+use Rattle.std.proofs.Common.{refl, sym}
 use Rattle.std.proofs.lemmas.Bool.{true≢false}
 use Rattle.rsb_storage.specs.Storage.{run_of}
 use Rattle.range_set_blaze.proofs.lemmas.removal.Meeting.{meeting-some, meeting-within, outside-removes, outside-then, some-common}

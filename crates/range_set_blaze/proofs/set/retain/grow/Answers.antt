@@ -10,7 +10,9 @@ use Rattle.range_set_blaze.proofs.set.retain.grow.Goals as goal
 pub returns-in_default-clause-added : goal.returns-in_default-clause-added
 returns-in_default-clause-added g c = rw c.in_default.is (λ rank.
     ap (λ here. members c.args.kept.now rank || here)
-    (covers-one (g.T.Integer.rank c.args.value) rank))
+    (covers-one (g.T.Integer.rank c.only.result.start) (g.T.Integer.rank c.only.result.end)
+    (g.T.Integer.rank c.args.value) rank (ap g.T.Integer.rank c.only.ensures.start)
+    (ap g.T.Integer.rank c.only.ensures.end)))
 
 -- If the value touches the piece, it is added to the piece.
 pub returns-then-reaches-clause-added : goal.returns-then-reaches-clause-added
@@ -26,6 +28,8 @@ returns-then-reaches-clause-added g c = rw c.in-Some.is (λ rank.
 pub returns-clause-added : goal.returns-clause-added
 returns-clause-added g c = rw c.in-Some.is (λ rank.
     ap (λ here. members c.insert_run.new.self rank || here)
-    (covers-one (g.T.Integer.rank c.args.value) rank)
+    (covers-one (g.T.Integer.rank c.only-2.result.start) (g.T.Integer.rank c.only-2.result.end)
+    (g.T.Integer.rank c.args.value) rank (ap g.T.Integer.rank c.only-2.ensures.start)
+    (ap g.T.Integer.rank c.only-2.ensures.end))
     ∙ ap (λ before. before || only (g.T.Integer.rank c.args.value) rank)
     (c.in_ok-insert_run.ensures.members rank))
