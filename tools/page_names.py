@@ -4,7 +4,7 @@ Paths: a path in back ticks is relative to the root, to `crates/`, or to the fol
 heading above it names. That of a test may be relative to the `src/` of a test crate. A file name alone is that of a
 file in a crate that a heading names, or of any file if none names one.
 
-Clauses: in PROVED.md, labels follow a call and a colon. Each is that of a clause of such a call, the name of a call or
+Clauses: in PROVED.md and TESTED.md, labels follow a call and a colon. Each is that of a clause of such a call, the name of a call or
 a ghost member of such a type or trait, a trait that it implements, or a field of a record that the clauses cite. Names
 without a colon are those of calls, or labels of calls that the row or the row above names. What is in parentheses is
 looked for only as a word. The text of a link to a source file has names of that file, and labels may follow.
@@ -12,8 +12,9 @@ looked for only as a word. The text of a link to a source file has names of that
 Definitions: a list of MODEL.md begins with their module. A name before the colon of an item is defined in that module,
 or in one that the item names in parentheses.
 
-Crates: ARCHITECTURE.md has each crate of crates.txt in its first table, with what it uses, in its picture, and in the
-part that describes crates. PROOFS.md names each crate, and lists the subjects of its lemmas under its heading.
+Crates: ARCHITECTURE.md has each crate of crates.txt in its first table, with its lines of code and what it uses, in its
+picture, and in the part that describes crates. The lines there are right to a hundred or a tenth, so ordinary edits need
+no update; `tools/documents --lines` writes them anew. PROOFS.md names each crate, and lists the subjects of its lemmas under its heading.
 """
 import re
 from functools import lru_cache
@@ -41,6 +42,8 @@ CALL = re.compile(r"^&?[^\W\d]\w*(::[^\W\d]\w*)*$")
 LINKED = re.compile(r"\[([^\]]*`[^\]]*)\]\(([^)\s#]+\.(?:rt|antt))\)((?:: (?:`\w+`(?:, |, and | and )?)+)?)")
 APPLIED = re.compile(r"^[\w -]+$")
 NAME = re.compile(r"^[^\W\d]\w*(-\w+)*$")
+# A row of ARCHITECTURE.md's first table: a crate, what it has, its lines of code, and what it uses.
+ROW_OF_CRATE = re.compile(r"^\| `(\w+)` \|([^|]*)\| ([\d,]+) \|([^|]*)\|$", re.M)
 
 
 def sections(text):
@@ -151,7 +154,7 @@ def segments(cell):
 
 
 def rows_of_contracts(text):
-    """The rows of PROVED.md's tables of contracts: what stands before the last cell, that cell, and the crates."""
+    """The rows of the tables of contracts of a page: what stands before the last cell, that cell, and the crates."""
     for number, line, crates in sections(text):
         if line.startswith("|") and not re.match(r"\|[-|\s]*$|.*\| Contracts \|$", line):
             *before, cell, _ = re.split(r"(?<!\\)\|", line)
@@ -190,7 +193,7 @@ def wrong_alone(names, crates, around):
 
 
 def wrong_labels(text):
-    """The calls and labels of PROVED.md that no source has."""
+    """The calls and labels in the tables of a page that no source has."""
     above = []
     for number, claim, cell, crates in rows_of_contracts(text):
         parts = list(segments(cell))
@@ -270,9 +273,33 @@ def wrong_modules(text):
 
 
 def rows_of_crates(text):
-    """The rows of ARCHITECTURE.md's first table: each crate with what it uses."""
-    rows = re.findall(r"^\| `(\w+)` \|(?:.*)\|([^|]*)\|$", text, re.M)
-    return {crate: CODE.findall(used) for crate, used in rows}
+    """The rows of ARCHITECTURE.md's first table: each crate with its lines of code and what it uses."""
+    return {crate: (lines, CODE.findall(used)) for crate, _, lines, used in ROW_OF_CRATE.findall(text)}
+
+
+@lru_cache(maxsize=None)
+def lines_of_code(crate):
+    """The number of lines of a crate's sources that are neither blank nor comments."""
+    texts = [path.read_text() for path in (CRATES / crate / "src").rglob("*.rt")]
+    lines = [line.strip() for text in texts for line in text.splitlines()]
+    return sum(1 for line in lines if line and not line.startswith("//"))
+
+
+def rounded(lines):
+    """A number of lines to the nearest hundred, or to the nearest ten if it is below a hundred."""
+    return round(lines, -2 if lines >= 100 else -1)
+
+
+def is_about(written, lines):
+    """Whether a number of lines in a page is right to a hundred or to a tenth."""
+    return abs(int(written.replace(",", "")) - lines) <= max(100, lines / 10)
+
+
+def with_lines(text):
+    """The text of ARCHITECTURE.md with the lines of code of each crate."""
+    return ROW_OF_CRATE.sub(
+        lambda row: f"| `{row[1]}` |{row[2]}| {rounded(lines_of_code(row[1])):,} |{row[4]}|", text
+    )
 
 
 def wrong_architecture(whole, text):
@@ -281,8 +308,11 @@ def wrong_architecture(whole, text):
     picture = re.search(r"^```text\n(.*?)^```$", whole, re.M | re.S).group(1)
     described = set(CODE.findall(text.partition("\n## The crates\n")[2]))
     for crate, used in source_names.uses().items():
-        if rows.get(crate) != used:
-            yield f"the table has {crate} with {rows.get(crate)}, and crates.txt with {used}"
+        lines, listed = rows.get(crate, ("0", None))
+        if listed != used:
+            yield f"the table has {crate} with {listed}, and crates.txt with {used}"
+        if not is_about(lines, lines_of_code(crate)):
+            yield f"{crate} has {lines_of_code(crate)} lines of code, not {lines} (tools/documents --lines)"
         if not re.search(rf"\b{crate}\b", picture):
             yield f"the picture lacks {crate}"
         if crate not in described:
@@ -320,7 +350,7 @@ def faults_of(page):
     """What is wrong in the names of a page."""
     text = page_text.prose_of(page)
     yield from [*missing_paths(text), *wrong_links(page, text)]
-    if page.name == "PROVED.md":
+    if page.name in ("PROVED.md", "TESTED.md"):
         yield from wrong_labels(text)
     if page.name == "MODEL.md":
         yield from wrong_modules(text)
