@@ -1,4 +1,5 @@
--- A text writes at most one address of a family, and no byte of it has a meaning of its own in a line.
+-- A text writes at most one address of a family, and no byte of it has a meaning of its own in a
+-- line.
 use Rattle.std.specs.Prelude.{◌≡◌, ℕ, zero, suc, ◌^◌, ◌<◌, ◌++◌, All, Bool, IsFalse, List, [], ◌∷◌}
 use Rattle.std.proofs.Common.{◌∙◌, ap, arith, get_or, inl, inr, refl, subst, sym}
 use Rattle.std.proofs.NetLemmas.Alphabet.{IsDigitOrDot, All-ipv4_text}

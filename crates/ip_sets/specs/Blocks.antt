@@ -4,9 +4,9 @@ use Rattle.std.specs.Prelude.{◌≡◌, ℕ, ◌+◌, ◌^◌, ◌≤◌, List,
 use Rattle.range_set_blaze.specs.Runs.{Interval, covers, members}
 use Rattle.range_set_blaze.specs.Selection.{Selection}
 
--- Whether the interval is a block: it has `2 ^ free` ranks, and its first rank is a multiple of that
--- number. In binary, these are all ranks that differ from the first only in the `free` lowest digits,
--- which are 0 in the first.
+-- Whether the interval is a block: it has `2 ^ free` ranks, and its first rank is a multiple of
+-- that number. In binary, these are all ranks that differ from the first only in the `free` lowest
+-- digits, which are 0 in the first.
 pub record IsBlock (block : Interval) : Type 0 where
   pub free : ℕ
   pub size : block.last + 1 ≡ block.first + 2 ^ free

@@ -40,8 +40,8 @@ span_length rank (Some span) = length_of (span_run rank span)
 
 -- ---- the biggest block at the start of a span
 
--- Whether `2 ^ free` is the greatest power of 2 that divides the first rank of the run and is at most
--- the number of its ranks.
+-- Whether `2 ^ free` is the greatest power of 2 that divides the first rank of the run and is at
+-- most the number of its ranks.
 pub record IsBiggest (run : Interval) (free : ℕ) : Type 0 where
   pub aligned : 2 ^ free ∣ run.first
   pub fits : run.first + 2 ^ free ≤ run.last + 1
@@ -54,7 +54,8 @@ IsRest rank run count rest = MatchOption rest (run.first + count ≡ run.last + 
     (λ more. (rank more.first ≡ run.first + count) × (rank more.last ≡ run.last)
     × (rank more.first ≤ rank more.last))
 
--- Whether the block is the biggest at the start of the span, and `rest` is what is left of the span.
+-- Whether the block is the biggest at the start of the span, and `rest` is what is left of the
+-- span.
 pub record IsSplit {T : Type 0} (rank : T → ℕ) (width : ℕ) (span : Span T) (block : Block T)
     (rest : Option (Span T)) : Type 0 where
   pub prefix : block.length ≤ width

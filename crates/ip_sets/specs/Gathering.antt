@@ -20,8 +20,8 @@ gathered_v6 gathered = members (spans_of (λ address. address) gathered.v6.items
 abbrev pub range_count : {A : Type 0} → Gathered A → ℕ
 range_count gathered = length gathered.v4.items + length gathered.v6.items
 
--- Whether each of the lines has a meaning, and what they mean is gathered, in at most as many ranges
--- as there are lines.
+-- Whether each of the lines has a meaning, and what they mean is gathered, in at most as many
+-- ranges as there are lines.
 pub record AreGathered {A : Type 0} (list : List (List ℕ)) (gathered : Gathered A) : Type 0 where
   pub good : All IsGoodLine list
   pub next : gathered.number ≡ length list + 1

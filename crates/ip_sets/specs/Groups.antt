@@ -9,7 +9,8 @@ abbrev pub segments_after : ℕ → List ℕ → ℕ
 segments_after n [] = n
 segments_after n (segment ∷ segments) = segments_after (n * 2 ^ 16 + segment) segments
 
--- Whether the bytes begin with a hexadecimal digit that has this value, and the rest comes after it.
+-- Whether the bytes begin with a hexadecimal digit that has this value, and the rest comes after
+-- it.
 pub record BeginsWithDigit (bytes : List ℕ) (value : ℕ) (rest : List ℕ) : Type 0 where
   pub digit : ℕ
   pub parts : bytes ≡ digit ∷ rest
@@ -21,8 +22,8 @@ abbrev pub lead : Bool → List ℕ
 lead true = []
 lead false = 58 ∷ []
 
--- Whether the bytes begin with a group that has this value, after a colon unless it is the first, and
--- the rest comes after the group.
+-- Whether the bytes begin with a group that has this value, after a colon unless it is the first,
+-- and the rest comes after the group.
 pub record BeginsWithGroup (is_first : Bool) (bytes : List ℕ) (value : ℕ) (rest : List ℕ)
     : Type 0 where
   pub text : List ℕ

@@ -53,6 +53,7 @@ before-unmarked (word ∷ words) more none =
     let others : Same false = ap (λ rest. word ∷ rest) (before-unmarked words more each.1) in
     subst Same (sym each.0) others
 
+-- What comes after `--` does not depend on words before it.
 pub after-unmarked : (words more : List (List ℕ)) → list_any is_mark words ≡ false
     → after_mark (words ++ more) ≡ after_mark more
 after-unmarked [] more none = refl
@@ -63,6 +64,7 @@ after-unmarked (word ∷ words) more none =
     let others : Same false = after-unmarked words more each.1 in
     subst Same (sym each.0) others
 
+-- The step for one more word in front, which is `--` or not.
 before-by : (word : List ℕ) (words more : List (List ℕ)) (mark : Bool)
     → (list_any is_mark words ≡ true → before_mark (words ++ more) ≡ before_mark words)
     → (mark || list_any is_mark words) ≡ true
@@ -78,6 +80,7 @@ before-marked [] more some = absurd (true≢false (sym some))
 before-marked (word ∷ words) more some =
     before-by word words more (is_mark word) (λ rest. before-marked words more rest) some
 
+-- The step for one more word in front, which is `--` or not.
 after-by : (words more : List (List ℕ)) (mark : Bool)
     → (list_any is_mark words ≡ true → after_mark (words ++ more) ≡ after_mark words ++ more)
     → (mark || list_any is_mark words) ≡ true
@@ -95,7 +98,7 @@ after-marked (word ∷ words) more some =
 
 -- ---- options and operands
 
--- Whether a word is no option.
+-- Whether a word is not an option.
 abbrev is_plain : List ℕ → Bool
 is_plain word = not (is_dashed word)
 
@@ -110,6 +113,7 @@ module _ (words more : List (List ℕ)) where
       ∙ filter-append is_dashed words (before_mark more)
       ∙ ap (λ each. filter is_dashed each ++ options_of more) (sym all)
 
+  -- After words without `--`, operands follow those of the words.
   pub operands-unmarked : list_any is_mark words ≡ false
       → operands_of (words ++ more) ≡ operands_of words ++ operands_of more
   operands-unmarked none =
@@ -132,6 +136,7 @@ module _ (words more : List (List ℕ)) where
   pub options-marked : list_any is_mark words ≡ true → options_of (words ++ more) ≡ options_of words
   options-marked some = ap (filter is_dashed) (before-marked words more some)
 
+  -- After `--`, all words are operands that follow the others.
   pub operands-marked : list_any is_mark words ≡ true
       → operands_of (words ++ more) ≡ operands_of words ++ more
   operands-marked some =
@@ -148,6 +153,7 @@ module _ (word : List ℕ) where
   plain-option plain =
       rw (no-mark word plain, plain) refl
 
+  -- It is the only operand.
   pub plain-operand : is_dashed word ≡ false → operands_of (word ∷ []) ≡ word ∷ []
   plain-operand plain = rw (no-mark word plain, plain) refl
 
@@ -155,6 +161,7 @@ module _ (word : List ℕ) where
   pub mark-option : is_mark word ≡ true → options_of (word ∷ []) ≡ []
   mark-option mark = rw mark refl
 
+  -- `--` is not an operand.
   pub mark-operand : is_mark word ≡ true → operands_of (word ∷ []) ≡ []
   mark-operand mark = rw mark refl
 
@@ -163,6 +170,7 @@ module _ (word : List ℕ) where
       → options_of (word ∷ more) ≡ word ∷ options_of more
   dashed-option more other dashed = rw (other, dashed) refl
 
+  -- It is not an operand.
   pub dashed-operand : is_mark word ≡ false → is_dashed word ≡ true
       → operands_of (word ∷ []) ≡ []
   dashed-operand other dashed = rw (other, dashed) refl
@@ -280,15 +288,17 @@ unknown-found : (option : List ℕ) (rest : Option (List ℕ)) (known : Bool) �
 unknown-found option rest true is = absurd (true≢false is)
 unknown-found option rest false is = refl
 
--- A test that holds, or else one that fails.
+-- A disjunction holds if its first part does.
 or-left : (left right : Bool) → left ≡ true → (left || right) ≡ true
 or-left true right is = refl
 or-left false right is = absurd (true≢false (sym is))
 
+-- A disjunction holds if its second part does.
 or-right : (left right : Bool) → right ≡ true → (left || right) ≡ true
 or-right true right is = refl
 or-right false right is = is
 
+-- A disjunction is its first part if the second one fails.
 or-none : (left right : Bool) → right ≡ false → (left || right) ≡ left
 or-none true right is = refl
 or-none false right is = is
@@ -298,7 +308,7 @@ module _ (words : List (List ℕ)) (word : List ℕ) where
   abbrev all_words : List (List ℕ)
   all_words = words ++ word ∷ []
 
-  -- A word that is no option, or comes after `--`.
+  -- A word that is not an option, or comes after `--`, adds no option.
   more-operand-options : (list_any is_mark words ≡ true) ⊎ (is_dashed word ≡ false)
       → options_of all_words ≡ options_of words
   more-operand-options which =
@@ -314,6 +324,7 @@ module _ (words : List (List ℕ)) (word : List ℕ) where
           ∙ ap (λ each. options_of words ++ each) (plain-option word plain)
           ∙ append-nil (options_of words)
 
+  -- It is one more operand.
   more-operand-operands : (list_any is_mark words ≡ true) ⊎ (is_dashed word ≡ false)
       → operands_of all_words ≡ operands_of words ++ word ∷ []
   more-operand-operands which =
@@ -328,6 +339,7 @@ module _ (words : List (List ℕ)) (word : List ℕ) where
           operands-unmarked words (word ∷ []) is
           ∙ ap (λ each. operands_of words ++ each) (plain-operand word plain)
 
+  -- It is not the first `--`.
   more-operand-ended : (list_any is_mark words ≡ true) ⊎ (is_dashed word ≡ false)
       → list_any is_mark all_words ≡ list_any is_mark words
   more-operand-ended (inl some) =

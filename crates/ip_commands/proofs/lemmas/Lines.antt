@@ -44,6 +44,7 @@ module _ {T : Type 0} (text : ℕ → List ℕ) (rank : T → ℕ) where
       ap (λ test. range_line text (cond test (from_to 1 0) (span rank range)).first
       (cond test (from_to 1 0) (span rank range)).last) (sym is)
 
+  -- The line of a range has the ends of its interval.
   pub line-of-run : (range : RangeInclusive T)
       → (interval_of rank range).first ≤ (interval_of rank range).last
       → line_of text rank range
@@ -131,6 +132,7 @@ module _ (form : Form) (families : Families) (v4 v6 : List Interval) where
   abbrev Kept : Families → Option (List ℕ) → Option (List ℕ) → Type 0
   Kept which old new = WritesList form (kept_v4 which v4) (kept_v6 which v6) old new
 
+  -- If the text of each family was written, so was that of both.
   pub both-written : {E : Type 0} (result : Result (Unit {0}) E) (old mid new : Option (List ℕ))
       → families ≡ Both → WritesV4 form v4 old mid → OnOk result (WritesV6 form v6 mid new)
       → OnOk result (Kept families old new)
@@ -144,6 +146,7 @@ module _ (form : Form) (families : Families) (v4 v6 : List Interval) where
       subst (λ which. Kept which old new) (sym is) whole
   both-written (Err error) old mid new is first last = tt
 
+  -- If only IPv4 is asked for, the text of the IPv4 addresses is enough.
   pub v4-written : {E : Type 0} (result : Result (Unit {0}) E) (old new : Option (List ℕ))
       → families ≡ V4 → OnOk result (WritesV4 form v4 old new) → OnOk result (Kept families old new)
   v4-written (Ok done) old new is first =
@@ -152,6 +155,7 @@ module _ (form : Form) (families : Families) (v4 v6 : List Interval) where
       subst (λ which. Kept which old new) (sym is) whole
   v4-written (Err error) old new is first = tt
 
+  -- If only IPv6 is asked for, the text of the IPv6 addresses is enough.
   pub v6-written : {E : Type 0} (result : Result (Unit {0}) E) (old new : Option (List ℕ))
       → families ≡ V6 → OnOk result (WritesV6 form v6 old new) → OnOk result (Kept families old new)
   v6-written (Ok done) old new is last =

@@ -36,12 +36,14 @@ same-list all list other is also =
     also.v6_addresses in
     λ i. record { v4 = λ number. same4 number i; v6 = λ number. same6 number i }
 
+-- If the bytes of a file are known, the file selects at most one set of each family.
 same-known : (known : Option (List ℕ)) (list other : Selected) → IsSome known
     → IfSome known (λ all. IsListOf all list.v4 list.v6)
     → IfSome known (λ all. IsListOf all other.v4 other.v6) → list ≡ other
 same-known None list other some is also = absurd (cc some)
 same-known (Some all) list other some is also = same-list all list other is also
 
+-- If the bytes of each file are known, the files select at most one list of sets.
 same-files : (bytes : List ℕ → Option (List ℕ)) (files : List (List ℕ))
     (lists others : List Selected) → AreKnown bytes files → AreFilesOf bytes files lists
     → AreFilesOf bytes files others → lists ≡ others
@@ -76,6 +78,7 @@ module _ (n : ℕ) (runs others : List Interval)
   kept-v4 V4 is also = canonical-same n runs others is.0 also.0 is.1 also.1 same
   kept-v4 V6 is also = refl
 
+  -- So are those of the IPv6 addresses.
   kept-v6 : (families : Families) → IsCanonicalIn n (kept_v6 families runs)
       → IsCanonicalIn n (kept_v6 families others) → kept_v6 families runs ≡ kept_v6 families others
   kept-v6 Both is also = canonical-same n runs others is.0 also.0 is.1 also.1 same
@@ -84,6 +87,7 @@ module _ (n : ℕ) (runs others : List Interval)
 
 -- ---- the answer to an operation
 
+-- If the bytes of the files are known, an operation on them has at most one text.
 pub one_answer : (bytes : List ℕ → Option (List ℕ)) (combination : Combination)
     (text other : List ℕ) → AreKnown bytes (map (λ name. name.now) combination.files.now)
     → IsCombined bytes combination text → IsCombined bytes combination other → text ≡ other
@@ -127,6 +131,7 @@ same-count family width runs others text other agree is also =
     (min (length (blocks i)) (2 ^ 64 - 1)))
     ∙ sym also.whole
 
+-- If the sets of each family agree, the texts that count them are the same.
 same-counts : (families : Families) (v4 v6 other4 other6 : List Interval) (text other : List ℕ)
     → Agree (2 ^ 32) (members v4) (members other4)
     → Agree (2 ^ 128) (members v6) (members other6) → AreCounts families v4 v6 text
@@ -140,6 +145,7 @@ same-counts V4 v4 v6 other4 other6 text other agree4 agree6 is also =
 same-counts V6 v4 v6 other4 other6 text other agree4 agree6 is also =
     same-count (codes "IPv6") 128 v6 other6 text other agree6 is also
 
+-- If the bytes of the files are known, their count has at most one text.
 pub one_count : (bytes : List ℕ → Option (List ℕ)) (families : Families) (files : List (List ℕ))
     (text other : List ℕ) → AreKnown bytes files → IsCounted bytes families files text
     → IsCounted bytes families files other → text ≡ other
@@ -153,6 +159,7 @@ one_count bytes families files text other known is also =
 
 -- ---- which lists have an address
 
+-- If the bytes of the files are known, a search in them has one outcome and one text.
 pub one_finding : (bytes : List ℕ → Option (List ℕ)) (address : IpAddr) (files : List (List ℕ))
     (outcome ending : Outcome) (text other : List ℕ) → AreKnown bytes files
     → IsFound bytes address files outcome text → IsFound bytes address files ending other

@@ -55,12 +55,14 @@ one_address width length first is =
 
 -- ---- how lines and texts are joined
 
+-- A line, its line feed and two texts after it are joined in any order.
 end_line : (line more rest : List ℕ)
     → (line ++ 10 ∷ [] ++ more) ++ rest ≡ line ++ 10 ∷ (more ++ rest)
 end_line line more rest =
     ap (λ all. all ++ rest) (append_assoc line (10 ∷ []) more)
     ∙ append_assoc line (10 ∷ more) rest
 
+-- So are a line of two parts with a separator, its line feed and two texts after it.
 end_parts : (first second more rest : List ℕ) (separator : ℕ)
     → (first ++ separator ∷ [] ++ second ++ 10 ∷ [] ++ more) ++ rest
     ≡ (first ++ separator ∷ second) ++ 10 ∷ (more ++ rest)
@@ -186,6 +188,7 @@ nothing = record {
   v6_addresses = addresses_none MeansV6 (members []) (λ number. refl);
 }
 
+-- The text of addresses is a list that selects exactly those addresses.
 pub reads_back : (form : Form) (v4 v6 : List Interval) (text : List ℕ) → IsListText form v4 v6 text
     → IsListOf text (members v4) (members v6)
 reads_back form v4 v6 text is =
@@ -215,6 +218,7 @@ module _ (n : ℕ) (runs : List Interval) (selected : Selection)
   agree_v6 V4 number within = refl
   agree_v6 V6 number within = made number within
 
+-- The text of an operation is a list that selects what the operation selects.
 pub combined_reads_back : (bytes : List ℕ → Option (List ℕ)) (combination : Combination)
     (text : List ℕ) → IsCombined bytes combination text → ReadsAsCombined bytes combination text
 combined_reads_back bytes combination text is =

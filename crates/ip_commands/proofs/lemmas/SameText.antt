@@ -61,6 +61,7 @@ ends-last selected block other is also first ordered order =
     (covers-inside other block.first (omega (arith, first)) (omega (arith, first, order)))
     (covers-inside block block.first (omega arith) ordered)).1
 
+-- Two lists of maximal blocks that ascend and have the same members are equal.
 blocks-unique : (selected : Selection) (low lower : ℕ) (blocks others : List Interval)
     → AscendsFrom low blocks → AscendsFrom lower others → All (IsMaximalBlock selected) blocks
     → All (IsMaximalBlock selected) others
@@ -129,6 +130,7 @@ module _ {T : Type 0} (text : ℕ → List ℕ) (rank : T → ℕ) (width : ℕ)
   line_at first length = cond (eqb length width) (text first ++ codes "\n")
       (text first ++ codes "/" ++ decimal length ++ codes "\n")
 
+  -- Blocks with the same ranks have the same lines.
   same-lines : (blocks others : List (Block T)) → All (IsAligned rank width) blocks
       → All (IsAligned rank width) others
       → block_runs rank width blocks ≡ block_runs rank width others
@@ -149,6 +151,7 @@ module _ {T : Type 0} (text : ℕ → List ℕ) (rank : T → ℕ) (width : ℕ)
 
   -- ---- a set has one text
 
+  -- In each form, two texts of a set are equal.
   pub same-set : (form : Form) (runs others : List Interval) (lines more : List ℕ) (many : ℕ)
       → IsSetText text rank width many form runs lines
       → IsSetText text rank width many form others more
@@ -172,6 +175,7 @@ module _ {T : Type 0} (text : ℕ → List ℕ) (rank : T → ℕ) (width : ℕ)
 
 -- ---- a list has one text
 
+-- The text of what is read from a text, in the same form, is that text.
 pub same_text : (form : Form) (v4 v6 other4 other6 : List Interval) (text other : List ℕ)
     → IsListText form v4 v6 text → IsListOf text (members other4) (members other6)
     → IsListText form other4 other6 other → other ≡ text

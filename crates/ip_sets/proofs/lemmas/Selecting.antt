@@ -63,6 +63,7 @@ take-least (x ∷ xs) k is =
     let one : k ≡ 1 = omega (arith, is) in
     ap (λ many. take many (x ∷ xs)) one
 
+-- What is left without these is the same too.
 pub drop-least : {X : Type 0} (xs : List X) (k : ℕ) → k ≡ min (length xs) 1
     → drop k xs ≡ drop 1 xs
 drop-least [] k is = ap (λ many. drop many []) is

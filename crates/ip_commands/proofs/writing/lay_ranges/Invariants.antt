@@ -1,5 +1,5 @@
--- What was taken, followed by what the stream may still give, is a list that it might give at first.
--- The lines of what was taken were laid.
+-- What was taken, followed by what the stream may still give, is a list that it might give at
+-- first. The lines of what was taken were laid.
 use Rattle.std.proofs.Common.{List, ◌++◌}
 use Rattle.std.specs.Iterator.{IsFinite, size}
 use Rattle.range_set_blaze.specs.Runs.{Interval}

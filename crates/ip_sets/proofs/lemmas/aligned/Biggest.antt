@@ -15,8 +15,8 @@ use lib.Count.{count_trailing_zeros}
 
 -- ---- how big it is
 
--- The exponent is the lesser of two: that of the greatest power of 2 that divides the first rank, and
--- that of the greatest one that is at most the number of ranks.
+-- The exponent is the lesser of two: that of the greatest power of 2 that divides the first rank,
+-- and that of the greatest one that is at most the number of ranks.
 pub biggest-is : (run : Interval) (zeros fitting free : ℕ) → run.first ≤ run.last
     → run.last < 2 ^ 128 → zeros ≡ count_trailing_zeros 128 run.first
     → 2 ^ fitting ≤ run.last - run.first + 1 → run.last - run.first + 1 < 2 * 2 ^ fitting
@@ -72,8 +72,8 @@ module _ (run : Interval) (runs : List Interval) (ordered : run.first ≤ run.la
       members-tail run runs (run.last + 1) (inr (omega arith))
       ∙ members-below (run.last + 2) runs (run.last + 1) canonical (omega arith)
 
-  -- A block of ranks of the set that contains the block has at most its size: it starts with the run
-  -- and ends in it.
+  -- A block of ranks of the set that contains the block has at most its size: it starts with the
+  -- run and ends in it.
   none-bigger : (other : Interval) (other_is : IsBlock other)
       → IsInside (members (run ∷ runs)) other → other.first ≤ block.first
       → block.last ≤ other.last → other_is.free ≤ free

@@ -1,5 +1,5 @@
--- A set has at most as many runs as any list of intervals with its members: an interval starts where
--- each run does.
+-- A set has at most as many runs as any list of intervals with its members: an interval starts
+-- where each run does.
 use Rattle.std.proofs.Common.{◌≡◌, ◌∙◌, ℕ, ◌+◌, ◌-◌, ◌≤◌, true≢false, List, [], ◌∷◌, get_or, length, inl, inr, sym, arith}
 use Rattle.std.proofs.lemmas.Bool.{cases_lt}
 use Rattle.std.specs.List.{All}
@@ -39,6 +39,7 @@ module _ (n : ℕ) (set others : List Interval)
       ] in
       (found.0, found.1, starts, omega (arith, bounds.0, ordered))
 
+  -- There are at most as many runs as others.
   pub few-runs : IsCanonicalIn n set → length set ≤ length others
   few-runs canonical =
       let maximal = canonical-maximal n 0 set canonical.0 canonical.1 in

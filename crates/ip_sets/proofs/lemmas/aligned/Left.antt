@@ -124,10 +124,11 @@ module _ {T I : Type 0} (rank : T → ℕ) (n : ℕ) (can_draw : I → Type 0) (
   module _ (width : ℕ) (s t : Blocks T I) (span : Span T) (block : Block T)
       (rest : Option (Span T)) (ready : Ready s) (takes : Takes s span t)
       (split : IsSplit rank width span block rest) where
-    -- The ranks of the span, and those of the block.
+    -- The ranks of the span.
     abbrev run : Interval
     run = span_run rank span
 
+    -- The ranks of the block.
     abbrev own : Interval
     own = block_run rank width block
 

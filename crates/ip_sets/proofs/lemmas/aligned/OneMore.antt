@@ -45,8 +45,8 @@ module _ (selected rest : Selection) (block : Interval) (is : IsMaximalBlock sel
       let later = rest-past next.first (first.inside next.first here) in
       (omega (arith, later), ordered, ascending.2)
 
-  -- A maximal block of the rest is one of the whole set: a block that meets it has no rank in common
-  -- with the first block, which would contain it.
+  -- A maximal block of the rest is one of the whole set: a block that meets it has no rank in
+  -- common with the first block, which would contain it.
   still-maximal : (next : Interval) → IsMaximalBlock rest next → IsMaximalBlock selected next
   still-maximal next of_rest = record {
     is_block = of_rest.is_block;

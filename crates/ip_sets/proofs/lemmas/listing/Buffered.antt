@@ -82,18 +82,22 @@ drop_on bytes rest line after within is parts =
 module _ {A : Type 0} (all rest line after more : List ℕ) (old : Gathered A)
     (parts : rest ≡ line ++ 10 ∷ after) (one : All (λ byte. eqb byte 10 ≡ false) line)
     (has : AreGatheredBefore all (rest ++ more) old) where
+  -- The bytes begin with the line.
   known : rest ++ more ≡ (line ++ 10 ∷ after) ++ more
   known = ap (λ bytes. bytes ++ more) parts
 
+  -- The bytes up to the first line feed are the line, and the others come after it.
   split : (take_through 10 (rest ++ more) ≡ line ++ 10 ∷ [])
       × (drop_through 10 (rest ++ more) ≡ after ++ more)
   split =
       let cut = through_feed line after more one in
       (ap (take_through 10) known ∙ cut.0, ap (drop_through 10) known ∙ cut.1)
 
+  -- There is a first line.
   some : 0 < length (take_through 10 (rest ++ more))
   some = omega (arith, ap length split.0, length-append line (10 ∷ []))
 
+  -- The content of the line does not depend on its line feed.
   same : content line ≡ content (take_through 10 (rest ++ more))
   same = sym (content_one 10 refl line) ∙ sym (ap content split.0)
 

@@ -81,6 +81,7 @@ module _ (list others : List (List ℕ)) (same : texts list ≡ texts others) wh
       by line fact (inr empty) = absurd
           (some line (nil_from_length (content line) (omega (arith, empty))) fact)
 
+-- If each line of a list has a meaning, each line of another with the same contents has one.
 pub all_good : (list others : List (List ℕ)) → texts list ≡ texts others → All IsGoodLine list
     → All IsGoodLine others
 all_good list others same good k d within =
@@ -108,6 +109,7 @@ has_v4 number line other is h = record {
   to_last = h.to_last;
 }
 
+-- So does whether it has an IPv6 address.
 has_v6 : (number : ℕ) (line other : List ℕ) → content line ≡ content other
     → HasAddress MeansV6 number other → HasAddress MeansV6 number line
 has_v6 number line other is h = record {
@@ -118,6 +120,7 @@ has_v6 number line other is h = record {
   to_last = h.to_last;
 }
 
+-- Lists with the same contents select the same addresses.
 pub same_list : (bytes other : List ℕ) (v4 v6 : Selection) → contents bytes ≡ contents other
     → IsListOf bytes v4 v6 → IsListOf other v4 v6
 same_list bytes other v4 v6 same h = record {

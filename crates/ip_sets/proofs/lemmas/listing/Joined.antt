@@ -19,6 +19,7 @@ covers-joined : (a b c d e rank : ℕ) → a ≤ b → c ≤ d → a ≤ c → c
     → covers (from_to a e) rank ≡ (covers (from_to a b) rank || covers (from_to c d) rank)
 covers-joined a b c d e rank ab cd ac cb is = grind (arith, nat_tests)
 
+-- Three tests have one disjunction, in whichever order they are joined.
 or-assoc : (a b c : Bool) → ((a || b) || c) ≡ (a || (b || c))
 or-assoc true b c = refl
 or-assoc false b c = refl
@@ -38,6 +39,7 @@ module _ {T : Type 0} (rank : T → ℕ) (n : ℕ) where
   StartsFrom low [] = Unit {0}
   StartsFrom low (pair ∷ pairs) = (low ≤ rank pair.0) × StartsFrom (rank pair.0) pairs
 
+  -- Pairs that start at a rank or later start at a lower one or later.
   starts-earlier : (low high : ℕ) (pairs : List (T × T)) → low ≤ high → StartsFrom high pairs
       → StartsFrom low pairs
   starts-earlier low high [] less starts = tt
@@ -75,6 +77,7 @@ module _ {T : Type 0} (rank : T → ℕ) (n : ℕ) where
     abbrev pub StartsAscend : List (T × T) → Type 0
     StartsAscend pairs = IsSortedByKey (λ (pair : T × T). pair.0) cmp pairs
 
+    -- Of two sorted pairs, the second starts no earlier than the first.
     starts-after : (pair next : T × T) → IsProper pair → IsProper next
         → is_lt (cmp next.0 pair.0) ≡ false → rank pair.0 ≤ rank next.0
     starts-after pair next proper follows not_less =
@@ -84,6 +87,7 @@ module _ {T : Type 0} (rank : T → ℕ) (n : ℕ) where
         (sym (is_lt-nat (rank next.0) (rank pair.0)) ∙ sym (ap is_lt ordered) ∙ not_less) in
         omega (arith, most)
 
+    -- Sorted pairs without the first one are sorted.
     ascend-tail : (pair : T × T) (pairs : List (T × T)) → StartsAscend (pair ∷ pairs)
         → StartsAscend pairs
     ascend-tail pair pairs ascend k default low within =
@@ -92,6 +96,7 @@ module _ {T : Type 0} (rank : T → ℕ) (n : ℕ) where
         (get_or pairs k default).0) ≡ false) same
         (ascend (suc k) default (omega arith) (omega arith))
 
+    -- Sorted pairs start at the rank from which the first of them starts, or later.
     pub starts-from : (low : ℕ) (pairs : List (T × T)) → All IsProper pairs → StartsAscend pairs
         → ((pair : T × T) (others : List (T × T)) → pairs ≡ pair ∷ others → low ≤ rank pair.0)
         → StartsFrom low pairs

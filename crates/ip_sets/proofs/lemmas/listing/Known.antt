@@ -99,6 +99,7 @@ module _ {A : Type 0} where
 
   module _ (all : List ℕ) (before : Option (List ℕ)) (gathered : Gathered A)
       (has : AreGatheredTo all before gathered) (end : IsAtEnd before) (v4 v6 : List Interval) where
+    -- At the end of the input, all lines were gathered.
     every : lines all ≡ has.2.before
     every = has.2.parts ∙ ap (λ rest. has.2.before ++ lines rest) (none_left before has.0 has.1 end)
         ∙ append-nil has.2.before

@@ -9,6 +9,7 @@ use Rattle.ip_sets.specs.Line.{begins_comment, content}
 use Rattle.ip_sets.specs.LineParts.{trimmed, without_last_blanks}
 use Rattle.ip_sets.proofs.lemmas.spelling.Around.{blank_no_comment}
 
+-- One more than a number is its successor.
 one_more : (n : ℕ) → 1 + n ≡ suc n
 one_more n = omega arith
 
@@ -39,6 +40,7 @@ module _ (byte : ℕ) (blank : is_ascii_whitespace byte ≡ true) where
       ap (λ n. take n (text ++ byte ∷ [])) same
       ∙ take-append-le (length text - after) text (byte ∷ []) (omega arith)
 
+  -- One more blank at the end is trimmed.
   trimmed_one : (text : List ℕ) → trimmed (text ++ byte ∷ []) ≡ trimmed text
   trimmed_one [] = rw blank refl
   trimmed_one (first ∷ text) = by (is_ascii_whitespace first) refl (trimmed_one text)
@@ -57,6 +59,7 @@ module _ (byte : ℕ) (blank : is_ascii_whitespace byte ≡ true) where
       ⊎ (before_first begins_comment (line ++ byte ∷ [])
       ≡ before_first begins_comment line ++ byte ∷ [])
 
+  -- In each line, the blank is in one of the two.
   joins : (line : List ℕ) → Joins line
   joins [] = inr (rw (blank_no_comment byte blank) refl)
   joins (first ∷ line) = by (begins_comment first) refl (joins line)

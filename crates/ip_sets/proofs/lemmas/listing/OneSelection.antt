@@ -5,6 +5,7 @@ use Rattle.std.specs.Prelude.{All, IsTrue}
 use Rattle.range_set_blaze.specs.Selection.{Selection}
 use Rattle.ip_sets.specs.List.{AreAddressesOf, IsBadLine, IsFirstBadLine, IsGoodLine, IsListOf}
 
+-- Tests that imply each other are equal.
 same_truth : (a b : Bool) → (IsTrue a → IsTrue b) → (IsTrue b → IsTrue a) → a ≡ b
 same_truth true b to from = sym (to refl)
 same_truth false true to from = from refl
@@ -26,6 +27,7 @@ bad_inside [] line after good bad =
 bad_inside (first ∷ before) line after good bad =
     bad_inside before line after (All-tail IsGoodLine first (before ++ line ∷ after) good) bad
 
+-- A list that selects addresses has no first bad line.
 pub not_both : (bytes : List ℕ) (v4 v6 : Selection) (number : ℕ) → IsListOf bytes v4 v6
     → ¬ IsFirstBadLine bytes number
 not_both bytes v4 v6 number list h =
@@ -49,6 +51,7 @@ same_place (first ∷ before) (second ∷ others) line other after rest same bad
     ap suc (same_place before others line other after rest later bad bad_too
     (All-tail IsGoodLine first before good) (All-tail IsGoodLine second others good_too))
 
+-- Two first bad lines have the same number.
 pub one_bad_line : (bytes : List ℕ) (number other : ℕ) → IsFirstBadLine bytes number
     → IsFirstBadLine bytes other → number ≡ other
 one_bad_line bytes number other h k =

@@ -56,6 +56,7 @@ module _ {A : Type 0} where
   module _ (all known raw : List ℕ) (old : Gathered A) (has : AreGatheredBefore all known old)
       (some : 0 < length (take_through 10 known))
       (same : content raw ≡ content (take_through 10 known)) where
+    -- If that line is added, the lines after it are left to gather.
     pub gathered_next : (new : Gathered A)
         → ((before : List (List ℕ)) (line : List ℕ) → content line ≡ content raw
         → AreGathered before old → AreGathered (before ++ line ∷ []) new)

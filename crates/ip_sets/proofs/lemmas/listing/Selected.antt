@@ -22,6 +22,7 @@ use Rattle.ip_sets.proofs.lemmas.spelling.OneMeaning.{IsLine_unique, Spans_uniqu
 -- ---- ranges that a text writes
 
 module _ (bits : ℕ) (IsAddress : List ℕ → ℕ → Type 0) where
+  -- A range that the parts around a slash write was not iterated.
   fresh_one_or_block : (texts : List (List ℕ)) (range : RangeInclusive ℕ)
       → WritesOneOrBlock bits IsAddress texts range → range_inclusive_exhausted range ≡ false
   fresh_one_or_block [] range h = absurd h
@@ -29,6 +30,7 @@ module _ (bits : ℕ) (IsAddress : List ℕ → ℕ → Type 0) where
   fresh_one_or_block (address ∷ length ∷ []) range h = h.block.fresh
   fresh_one_or_block (x ∷ y ∷ z ∷ texts) range h = absurd h
 
+  -- A range that the parts around a dash write was not iterated.
   fresh_parts : (texts : List (List ℕ)) (range : RangeInclusive ℕ)
       → WritesParts bits IsAddress texts range → range_inclusive_exhausted range ≡ false
   fresh_parts [] range h = absurd h
@@ -41,6 +43,7 @@ pub fresh_v4 : (line : List ℕ) (range : RangeInclusive ℕ) → IsLine line (V
     → range_inclusive_exhausted range ≡ false
 fresh_v4 line range h = fresh_parts 32 IsV4 (parts 45 (content line)) range h
 
+-- Neither was a range of IPv6 addresses.
 pub fresh_v6 : (line : List ℕ) (range : RangeInclusive ℕ) → IsLine line (V6 range)
     → range_inclusive_exhausted range ≡ false
 fresh_v6 line range h = fresh_parts 128 IsV6 (parts 45 (content line)) range h
@@ -52,6 +55,7 @@ abbrev ranks_of : RangeInclusive ℕ → Selection
 ranks_of range number = nat_le (range_inclusive_start range) number && nat_lt number
     (range_inclusive_end range + 1)
 
+-- A number of a union was there before, or is between the ends of the range.
 in_union : (before : Bool) (range : RangeInclusive ℕ) (number : ℕ)
     → IsTrue (before || ranks_of range number)
     → IsTrue before
@@ -59,6 +63,7 @@ in_union : (before : Bool) (range : RangeInclusive ℕ) (number : ℕ)
 in_union true range number h = inl refl
 in_union false range number h = inr (grind (arith, nat_tests), grind (arith, nat_tests))
 
+-- A number that was there before, or is between the ends of the range, is in the union.
 to_union : (before : Bool) (range : RangeInclusive ℕ) (number : ℕ)
     → IsTrue before
     ⊎ ((range_inclusive_start range ≤ number) × (number ≤ range_inclusive_end range))
@@ -144,9 +149,11 @@ module _ (family : RangeInclusive ℕ → Line)
     ]),
   )
 
+-- Equal meanings as IPv4 addresses have equal ranges.
 V4_injective : (a b : RangeInclusive ℕ) → V4 a ≡ V4 b → a ≡ b
 V4_injective a b is = cc is
 
+-- Equal meanings as IPv6 addresses have equal ranges.
 V6_injective : (a b : RangeInclusive ℕ) → V6 a ≡ V6 b → a ≡ b
 V6_injective a b is = cc is
 
@@ -182,21 +189,25 @@ pushed old new pair range fresh starts ends is number =
 
 -- ---- what is added for a line
 
+-- The range of a line that means IPv4 addresses adds the IPv4 addresses of the line.
 pub adds_v4 : (line : List ℕ) (range : RangeInclusive ℕ) (old new : Selection)
     → ((number : ℕ) → new number ≡ union old (ranks_of range) number)
     → IsLine line (V4 range) → AddsAddressesOf MeansV4 line old new
 adds_v4 = adds_range V4 V4_injective fresh_v4
 
+-- The range of a line that means IPv6 addresses adds the IPv6 addresses of the line.
 pub adds_v6 : (line : List ℕ) (range : RangeInclusive ℕ) (old new : Selection)
     → ((number : ℕ) → new number ≡ union old (ranks_of range) number)
     → IsLine line (V6 range) → AddsAddressesOf MeansV6 line old new
 adds_v6 = adds_range V6 V6_injective fresh_v6
 
+-- A line that does not mean IPv4 addresses adds none.
 pub no_v4 : (line : List ℕ) (what : Line) (selected : Selection)
     → ((range : RangeInclusive ℕ) → what ≡ V4 range → ⊥) → IsLine line what
     → AddsAddressesOf MeansV4 line selected selected
 no_v4 = adds_none V4 V4_injective fresh_v4
 
+-- A line that does not mean IPv6 addresses adds none.
 pub no_v6 : (line : List ℕ) (what : Line) (selected : Selection)
     → ((range : RangeInclusive ℕ) → what ≡ V6 range → ⊥) → IsLine line what
     → AddsAddressesOf MeansV6 line selected selected
@@ -208,6 +219,7 @@ pub empty_v4 : (line : List ℕ) → content line ≡ [] → (number : ℕ)
 empty_v4 line empty number h =
     has_none V4 V4_injective fresh_v4 line Nothing empty (λ range is. absurd (cc is)) number h
 
+-- It means no IPv6 address either.
 pub empty_v6 : (line : List ℕ) → content line ≡ [] → (number : ℕ)
     → HasAddress MeansV6 number line → ⊥
 empty_v6 line empty number h =

@@ -145,9 +145,11 @@ adds_run_v6 v4 line first last none means rest old new adds list =
 no_feed : (byte : ℕ) → IsPlain byte → eqb byte 10 ≡ false
 no_feed byte is = let not_blank = is.no_blank in grind (arith, nat_tests)
 
+-- A text of plain bytes has no line feed.
 plain_line : (text : List ℕ) → All IsPlain text → HasNoFeed text
 plain_line text plain = All-weaker IsPlain (λ byte. eqb byte 10 ≡ false) no_feed text plain
 
+-- Two texts of plain bytes, with another byte between them, have no line feed.
 plain_parts : (first second : List ℕ) (separator : ℕ) → eqb separator 10 ≡ false
     → All IsPlain first → All IsPlain second → HasNoFeed (first ++ separator ∷ second)
 plain_parts first second separator is plain plain_too =
@@ -169,6 +171,7 @@ pub record WritesFamily (width : ℕ) (text : ℕ → List ℕ) (Selects : List 
 v4_address : ℕ → Ipv4Addr
 v4_address n = record { octets = to_be_bytes w32 n }
 
+-- The address has the bits of the number.
 is_v4_address : (n : ℕ) → IsIpv4OfBits (v4_address n) n
 unfolding IsIpv4OfBits v4_address
 is_v4_address n = refl
@@ -177,10 +180,12 @@ is_v4_address n = refl
 v6_address : ℕ → Ipv6Addr
 v6_address n = record { segments = segments_of (to_be_bytes w128 n) }
 
+-- The address has the bits of the number.
 is_v6_address : (n : ℕ) → IsIpv6OfBits (v6_address n) n
 unfolding IsIpv6OfBits v6_address
 is_v6_address n = refl
 
+-- The lines of IPv4 addresses add what they write.
 pub v4_written : (v6 : Selection)
     → WritesFamily 32 v4_text (λ bytes v4. IsListOf bytes v4 v6)
 v4_written v6 = record {
@@ -200,6 +205,7 @@ v4_written v6 = record {
       (is_v4_address last) refl);
 }
 
+-- The lines of IPv6 addresses add what they write.
 pub v6_written : (v4 : Selection)
     → WritesFamily 128 v6_text (λ bytes v6. IsListOf bytes v4 v6)
 v6_written v4 = record {

@@ -9,6 +9,7 @@ use Rattle.std.specs.declared.net.ipv6_addr.Ipv6Addr.{Ipv6Addr}
 use Rattle.ip_sets.specs.Address.{IsV4, IsV6, v4_text, v6_text}
 use Rattle.ip_sets.proofs.lemmas.spelling.Bytes.{byte_fits, from_be_bytes-to_be_bytes_16, octets_of-segments_of, segment_fits}
 
+-- The text of an IPv4 address writes its number.
 pub IsV4-v4_text : (address : Ipv4Addr) (n : ℕ) → n < 2 ^ 32 → IsIpv4OfBits address n
     → IsV4 (v4_text n) n
 unfolding IsIpv4OfBits ipv4_bits
@@ -18,6 +19,7 @@ IsV4-v4_text address n fits is = (
   sym (ap (from_be_bytes w32) is ∙ from_be_bytes-to_be_bytes_4 n fits),
 )
 
+-- The text of an IPv6 address writes its number.
 pub IsV6-v6_text : (address : Ipv6Addr) (n : ℕ) → n < 2 ^ 128 → IsIpv6OfBits address n
     → IsV6 (v6_text n) n
 unfolding IsIpv6OfBits ipv6_bits

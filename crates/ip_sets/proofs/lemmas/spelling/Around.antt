@@ -32,9 +32,11 @@ no_more : (comment : List ℕ) → IsComment comment
 no_more [] is = refl
 no_more (byte ∷ bytes) is = rw is refl
 
+-- If the test for a comment fails, its negation holds.
 no_mark : (byte : ℕ) → begins_comment byte ≡ false → not (begins_comment byte) ≡ true
 no_mark byte is = rw is refl
 
+-- If no byte of a text begins a comment, a comment after the text is left out.
 before_comment : (text comment : List ℕ) → All (λ byte. begins_comment byte ≡ false) text
     → IsComment comment → before_first begins_comment (text ++ comment) ≡ text
 before_comment text comment none is =
@@ -44,9 +46,11 @@ before_comment text comment none is =
     take_at text comment (position_or_len begins_comment (text ++ comment))
     (omega (arith, first, no_more comment is))
 
+-- A byte of white space does not begin a comment.
 pub blank_no_comment : (byte : ℕ) → is_ascii_whitespace byte ≡ true → begins_comment byte ≡ false
 blank_no_comment byte is = grind (arith, nat_tests)
 
+-- White space has no byte that begins a comment.
 blanks_no_comment : (blanks : List ℕ) → AreBlanks blanks
     → All (λ byte. begins_comment byte ≡ false) blanks
 blanks_no_comment blanks all = All-weaker (λ byte. is_ascii_whitespace byte ≡ true)
@@ -54,6 +58,7 @@ blanks_no_comment blanks all = All-weaker (λ byte. is_ascii_whitespace byte ≡
 
 -- ---- white space
 
+-- White space before a text is left out, if the text does not begin with any.
 without_before : (before text : List ℕ) → AreBlanks before
     → is_ascii_whitespace (get_or text 0 0) ≡ false → without_first_blanks (before ++ text) ≡ text
 without_before before text blanks first =
@@ -79,6 +84,7 @@ blanks_after text after blanks some last =
     ap (prefix_len is_ascii_whitespace) turned
     ∙ omega (arith, skipped, none, length-reverse after)
 
+-- White space after a text is left out, if the text does not end with any.
 without_after : (text after : List ℕ) → AreBlanks after → 0 < length text
     → is_ascii_whitespace (get_or text (length text - 1) 0) ≡ false
     → without_last_blanks (text ++ after) ≡ text
@@ -88,12 +94,14 @@ without_after text after blanks some last =
     (length (text ++ after) - suffix_len is_ascii_whitespace (text ++ after))
     (omega (arith, ends, length-append text after))
 
+-- A text with more after it begins as the text does.
 first_of : (text after : List ℕ) → 0 < length text
     → is_ascii_whitespace (get_or text 0 0) ≡ false
     → is_ascii_whitespace (get_or (text ++ after) 0 0) ≡ false
 first_of [] after some first = absurd (omega arith)
 first_of (x ∷ text) after some first = first
 
+-- What comes around a text is not part of the content of a line.
 pub content_around : (before text after comment : List ℕ) → AreBlanks before → IsContent text
     → AreBlanks after → IsComment comment → content (before ++ text ++ after ++ comment) ≡ text
 content_around before text after comment blanks is blanks_too ends =
@@ -107,6 +115,7 @@ content_around before text after comment blanks is blanks_too ends =
     ∙ ap without_last_blanks first
     ∙ without_after text after blanks_too is.some is.no_blank_last
 
+-- A line with only white space and a comment has no content.
 pub content_nothing : (blanks comment : List ℕ) → AreBlanks blanks → IsComment comment
     → content (blanks ++ comment) ≡ []
 content_nothing blanks comment all ends =

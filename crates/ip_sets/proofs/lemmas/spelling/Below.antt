@@ -8,6 +8,7 @@ unfoldable pub passes_below : ℕ → (ℕ → Bool) → Bool
 passes_below zero test = true
 passes_below (suc n) test = test n && passes_below n test
 
+-- A test that passes at a number, and at each below it, passes at each below the next one.
 passes_step : (test : ℕ → Bool) (n k : ℕ) (is_last : Bool) → is_last ≡ eqb k n → test n ≡ true
     → ((i : ℕ) → i < n → test i ≡ true) → k < suc n → test k ≡ true
 passes_step test n k true is last before within = rw (eqb-true k n (sym is)) last
@@ -15,6 +16,7 @@ passes_step test n k false is last before within =
     let other : k ≢ n = eqb-false k n (sym is) in
     before k (omega (arith, other, within))
 
+-- If the test for all numbers below another holds, the test passes at each of them.
 pub passes_at : (test : ℕ → Bool) (n : ℕ) → passes_below n test ≡ true → (k : ℕ) → k < n
     → test k ≡ true
 unfolding passes_below

@@ -32,6 +32,7 @@ quotient size q other some low high =
     let to = div_below other size (q + 1) some below in
     omega (arith, from, to)
 
+-- A number with the quotient q is one of these numbers.
 from_quotient : (size q other : ℕ) → 0 < size → other / size ≡ q
     → (q * size ≤ other) × (other ≤ q * size + (size - 1))
 from_quotient size q other some is =
@@ -83,6 +84,7 @@ pub masked_start : (width length address number size : ℕ) → number ≡ addre
 masked_start width length address number size same is =
     rw (same, is) (ap (λ low. address - low) (and_mask address (width - length)))
 
+-- With all of its low bits set, a number is the end of a block.
 pub masked_end : (width length address number size : ℕ) → number ≡ address
     → size ≡ block_size width length
     → number - bit_and number (size - 1) + (size - 1) ≡ block_end width length address
@@ -96,12 +98,14 @@ whole_size width length none =
     let same : width - length ≡ width = omega (arith, none) in
     ap (λ n. 2 ^ n) same
 
+-- Then the block starts at 0.
 pub whole_start : (width length number : ℕ) → length ≡ 0 → number < 2 ^ width
     → block_start width length number ≡ 0
 whole_start width length number none below =
     let rest = mod-eq_of_lt below in
     ap (λ n. number - number % n) (whole_size width length none) ∙ omega (arith, rest)
 
+-- Then it ends at the last address.
 pub whole_end : (width length number last : ℕ) → length ≡ 0 → number < 2 ^ width
     → last + 1 ≡ 2 ^ width → last ≡ block_end width length number
 whole_end width length number last none below is =

@@ -64,6 +64,7 @@ segment_fits (a ∷ b ∷ bytes) small zero =
 segment_fits (a ∷ b ∷ bytes) small (suc k) =
     segment_fits bytes (λ j. small (suc (suc j))) k
 
+-- A byte of a number, by its place, is below 256.
 byte_below : (i n : ℕ) → byte_at i n < 256
 byte_below zero n = omega arith
 byte_below (suc i) n = mod_below (n / 256 ^ suc i) 256 (omega arith)

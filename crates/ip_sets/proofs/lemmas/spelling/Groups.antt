@@ -22,6 +22,7 @@ abbrev is_hex_read : ℕ → Bool
 is_hex_read byte = cond (nat_lt (get_or HEX_VALUES byte 0) 16)
     (eqb (digit_value byte) (get_or HEX_VALUES byte 0)) true
 
+-- The table has the value of each byte.
 all_read : passes_below 256 is_hex_read ≡ true
 unfolding passes_below
 all_read = refl
@@ -36,6 +37,7 @@ hex_read byte fits small =
 -- ---- one group
 
 module _ (bytes after_1 : List ℕ) (a : ℕ) (h : BeginsWithDigit bytes a after_1) where
+  -- One digit is a group.
   pub one_digit : BeginsWith IsGroup bytes a after_1
   one_digit = record {
     text = h.digit ∷ [];
@@ -47,6 +49,7 @@ module _ (bytes after_1 : List ℕ) (a : ℕ) (h : BeginsWithDigit bytes a after
   }
 
   module _ (after_2 : List ℕ) (b : ℕ) (i : BeginsWithDigit after_1 b after_2) where
+    -- Two digits are a group.
     pub two_digits : BeginsWith IsGroup bytes (a * 16 + b) after_2
     two_digits = record {
       text = h.digit ∷ i.digit ∷ [];
@@ -64,6 +67,7 @@ module _ (bytes after_1 : List ℕ) (a : ℕ) (h : BeginsWithDigit bytes a after
     }
 
     module _ (after_3 : List ℕ) (c : ℕ) (j : BeginsWithDigit after_2 c after_3) where
+      -- Three digits are a group.
       pub three_digits : BeginsWith IsGroup bytes ((a * 16 + b) * 16 + c) after_3
       three_digits = record {
         text = h.digit ∷ i.digit ∷ j.digit ∷ [];
@@ -84,6 +88,7 @@ module _ (bytes after_1 : List ℕ) (a : ℕ) (h : BeginsWithDigit bytes a after
         );
       }
 
+      -- Four digits are a group.
       pub four_digits : (after_4 : List ℕ) (d : ℕ) → BeginsWithDigit after_3 d after_4
           → BeginsWith IsGroup bytes (((a * 16 + b) * 16 + c) * 16 + d) after_4
       four_digits after_4 d k = record {
@@ -130,6 +135,7 @@ after_colon text (t ∷ segments) group s (inl (g, rest, is, first, more)) digit
 after_colon text (t ∷ segments) group s (inr (last, octets, may, is, dotted, same)) digits =
     absurd (true≢false (sym may))
 
+-- Groups with one more after them are groups.
 group_more : (text segments group : List ℕ) (s : ℕ) (is_first : Bool)
     → IsGroups false text segments → is_first ≡ eqb (length segments) 0 → IsGroup group s
     → IsGroups false (text ++ (lead is_first ++ group)) (segments ++ s ∷ [])
@@ -149,6 +155,7 @@ group_more text (t ∷ segments) group s false (inl (g, rest, is, first, more)) 
 group_more text (t ∷ segments) group s false (inr (last, octets, may, is, dotted, same)) none digits =
     absurd (true≢false (sym may))
 
+-- One segment more shifts the number by 16 bits, and is added.
 value_more : (n : ℕ) (segments : List ℕ) (s : ℕ)
     → segments_after n (segments ++ s ∷ []) ≡ segments_after n segments * 2 ^ 16 + s
 value_more n [] s = refl
@@ -167,6 +174,7 @@ room_for_more count number value few fits small =
     let most = pow_mono {i = 16 * count} {j = 112} (omega arith) in
     omega (arith, most, fits, small)
 
+-- Before the first group is read, no groups were read.
 pub no_groups : (bytes : List ℕ) (read : Groups) → read.number ≡ 0 → read.count ≡ 0
     → read.rest.now ≡ bytes → AreGroups bytes read
 no_groups bytes read nothing none all = record {
@@ -182,6 +190,7 @@ no_groups bytes read nothing none all = record {
       omega (arith, nothing, bits);
 }
 
+-- Groups that were read, and one group more, are groups that were read.
 pub one_group_more : (bytes : List ℕ) (old new : Groups) (value : ℕ) (rest : List ℕ)
     → AreGroups bytes old → BeginsWithGroup (eqb old.count 0) old.rest.now value rest
     → old.count < 8 → value < 2 ^ 16 → new.number ≡ old.number * 65536 + value
@@ -209,6 +218,7 @@ one_group_more bytes old new value rest h next few small number count others =
 
 -- ---- eight segments
 
+-- The number of eight segments is that of their sixteen bytes.
 words : (a b c d e f g h : ℕ)
     → (((((((0 * 2 ^ 16 + a) * 2 ^ 16 + b) * 2 ^ 16 + c) * 2 ^ 16 + d) * 2 ^ 16 + e) * 2 ^ 16 + f)
     * 2 ^ 16 + g) * 2 ^ 16 + h
@@ -241,6 +251,7 @@ any_groups before text (s ∷ segments) (inl (g, rest, is, digits, more)) =
 any_groups before text (s ∷ segments) (inr (last, octets, may, is, dotted, same)) =
     absurd (true≢false (sym may))
 
+-- Eight groups write an IPv6 address.
 pub eight_groups : (bytes : List ℕ) (read : Groups) → AreGroups bytes read → read.count ≡ 8
     → BeginsWith IsV6 bytes read.number read.rest.now
 unfolding ipv6_bits
@@ -273,22 +284,26 @@ shifted_room count other number last room fits fits_too =
     let most = pow_mono {i = 16 * other} {j = 16 * (8 - count)} (omega (arith, room)) in
     omega (arith, rows, bits, most, fits_too)
 
+-- The number of two lists of segments is that of the second after that of the first.
 after_all : (n : ℕ) (xs ys : List ℕ)
     → segments_after n (xs ++ ys) ≡ segments_after (segments_after n xs) ys
 after_all n [] ys = refl
 after_all n (x ∷ xs) ys = after_all (n * 2 ^ 16 + x) xs ys
 
+-- One segment more has 16 bits more.
 bits_of_one_more : (count : ℕ) → 2 ^ (16 * suc count) ≡ 2 ^ 16 * 2 ^ (16 * count)
 bits_of_one_more count =
     let sum : 16 * suc count ≡ 16 + 16 * count = omega arith in
     ap (λ n. 2 ^ n) sum ∙ pow-add 2 16 (16 * count)
 
+-- Segments that are 0 shift the number.
 after_zeros : (count n : ℕ) → segments_after n (replicate count 0) ≡ n * 2 ^ (16 * count)
 after_zeros zero n = omega arith
 after_zeros (suc count) n =
     let bits = ap (λ p. n * p) (bits_of_one_more count) in
     omega (arith, after_zeros count (n * 2 ^ 16 + 0), bits)
 
+-- Segments after those of a number shift it, and then add their own number.
 after_number : (n : ℕ) (segments : List ℕ) → segments_after n segments
     ≡ n * 2 ^ (16 * length segments) + segments_after 0 segments
 after_number n [] = omega arith
@@ -318,6 +333,7 @@ zeros_between first last count =
     ∙ after_number (n * 2 ^ (16 * count)) last
     ∙ omega (arith, shift)
 
+-- Fewer than eight groups, with `::` between some of them, write an IPv6 address.
 pub elided_groups : (bytes between rest : List ℕ) (first last : Groups) (number : ℕ)
     → AreGroups bytes first → first.rest.now ≡ 58 ∷ between → between ≡ 58 ∷ rest
     → AreGroups rest last → first.count + last.count < 8

@@ -19,12 +19,14 @@ pub v4_text_of : (address : Ipv4Addr) (n : ℕ) → IsIpv4OfBits address n
 unfolding IsIpv4OfBits
 v4_text_of address n is = ap ipv4_text is
 
+-- The text of an IPv4 address means that address.
 pub v4_means : (address : Ipv4Addr) (n : ℕ) (text : List ℕ) → n < 2 ^ 32
     → IsIpv4OfBits address n → text ≡ v4_text n → MeansV4 text n n
 v4_means address n text fits is e range spans =
     rw e (plain_line 32 IsV4 (v4_text n) n range (v4_plain n)
     (IsV4-v4_text address n fits is) spans)
 
+-- The text of a block of IPv4 addresses means the addresses of the block.
 pub v4_block_means : (address : Ipv4Addr) (n length : ℕ) (text : List ℕ) → n < 2 ^ 32
     → length ≤ 32 → IsIpv4OfBits address n → text ≡ v4_text n ++ 47 ∷ decimal length
     → MeansV4 text (block_start 32 length n) (block_end 32 length n)
@@ -32,6 +34,7 @@ v4_block_means address n length text fits within is e range spans =
     rw e (block_line 32 IsV4 (v4_text n) (decimal length) n length range (v4_plain n)
     (decimal_plain length (omega arith)) (IsV4-v4_text address n fits is) refl within spans)
 
+-- The text of a range of IPv4 addresses means the addresses of the range.
 pub v4_span_means : (start end : Ipv4Addr) (first last : ℕ) (text : List ℕ) → first < 2 ^ 32
     → last < 2 ^ 32 → first ≤ last → IsIpv4OfBits start first → IsIpv4OfBits end last
     → text ≡ v4_text first ++ 45 ∷ v4_text last → MeansV4 text first last
@@ -48,12 +51,14 @@ pub v6_text_of : (address : Ipv6Addr) (n : ℕ) → IsIpv6OfBits address n
 unfolding IsIpv6OfBits
 v6_text_of address n is = ap ipv6_text is
 
+-- The text of an IPv6 address means that address.
 pub v6_means : (address : Ipv6Addr) (n : ℕ) (text : List ℕ) → n < 2 ^ 128
     → IsIpv6OfBits address n → text ≡ v6_text n → MeansV6 text n n
 v6_means address n text fits is e range spans =
     rw e (plain_line 128 IsV6 (v6_text n) n range (v6_plain n)
     (IsV6-v6_text address n fits is) spans)
 
+-- The text of a block of IPv6 addresses means the addresses of the block.
 pub v6_block_means : (address : Ipv6Addr) (n length : ℕ) (text : List ℕ) → n < 2 ^ 128
     → length ≤ 128 → IsIpv6OfBits address n → text ≡ v6_text n ++ 47 ∷ decimal length
     → MeansV6 text (block_start 128 length n) (block_end 128 length n)
@@ -61,6 +66,7 @@ v6_block_means address n length text fits within is e range spans =
     rw e (block_line 128 IsV6 (v6_text n) (decimal length) n length range (v6_plain n)
     (decimal_plain length (omega arith)) (IsV6-v6_text address n fits is) refl within spans)
 
+-- The text of a range of IPv6 addresses means the addresses of the range.
 pub v6_span_means : (start end : Ipv6Addr) (first last : ℕ) (text : List ℕ) → first < 2 ^ 128
     → last < 2 ^ 128 → first ≤ last → IsIpv6OfBits start first → IsIpv6OfBits end last
     → text ≡ v6_text first ++ 45 ∷ v6_text last → MeansV6 text first last

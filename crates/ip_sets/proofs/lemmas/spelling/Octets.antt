@@ -21,6 +21,7 @@ one_more n k some small below =
     decimal_step (n * 10 + k) (omega arith) (omega arith)
     ∙ (λ i. decimal (front i) ++ (48 + last i) ∷ [])
 
+-- A number in decimal, and a digit after it, are a number in decimal.
 pub next_digit : (bytes rest more : List ℕ) (n k : ℕ) → 0 < n → n < 100 → k < 10
     → bytes ≡ decimal n ++ rest → rest ≡ (48 + k) ∷ more → bytes ≡ decimal (n * 10 + k) ++ more
 next_digit bytes rest more n k some small below is next =
@@ -34,6 +35,7 @@ front_of_one : (first one : ℕ) (rest : List ℕ) → one < 10 → first ≡ 48
 front_of_one first one rest small is =
     first_digit (first ∷ rest) rest one small (ap (λ byte. byte ∷ rest) is)
 
+-- Two digits are a number in decimal, if the first is not 0.
 front_of_two : (first second one next : ℕ) (rest : List ℕ) → one < 10 → first ≡ 48 + one
     → next < 10 → second ≡ 48 + next → 0 < one
     → first ∷ second ∷ rest ≡ decimal (one * 10 + next) ++ rest
@@ -64,6 +66,7 @@ octet_front first second third one next last rest true true small is two three =
     (front_of_two first second one next (third ∷ rest) small is digit.0 digit.1 digit.2)
     (ap (λ byte. byte ∷ rest) digit_too.2)
 
+-- The first of two digits is not 0.
 not_padded : (one : ℕ) (has_two : Bool) → (has_two && eqb one 0) ≡ false → has_two ≡ true
     → 0 < one
 not_padded zero true none is = absurd (true≢false none)
@@ -123,6 +126,7 @@ joined : (a b c d : ℕ) (rest : List ℕ)
     ≡ dotted_text a b c d ++ rest
 joined a b c d rest = sym (simp append_assoc)
 
+-- Four numbers that are read with dots between them are the text of an IPv4 address.
 pub dotted : (bytes a_rest b_bytes b_rest c_bytes c_rest d_bytes rest : List ℕ) (a b c d : ℕ)
     → bytes ≡ decimal a ++ a_rest → a_rest ≡ 46 ∷ b_bytes
     → b_bytes ≡ decimal b ++ b_rest → b_rest ≡ 46 ∷ c_bytes

@@ -29,12 +29,14 @@ Spans_unique range other first last start end h k starts ends =
 
 module _ (bits : ℕ) (small : bits < 2 ^ 32) (IsAddress : List ℕ → ℕ → Type 0)
     (unique : (text : List ℕ) (m n : ℕ) → IsAddress text m → IsAddress text n → m ≡ n) where
+  -- The text of an address writes one range.
   one : (text : List ℕ) (a b : RangeInclusive ℕ) → WritesOne IsAddress text a
       → WritesOne IsAddress text b → a ≡ b
   one text a b h k =
       let same = unique text h.address k.address h.written k.written in
       Spans_unique a b h.address h.address k.address k.address h.one k.one same same
 
+  -- The parts of a block write one range.
   block : (address_text length_text : List ℕ) (a b : RangeInclusive ℕ)
       → WritesBlock bits IsAddress address_text length_text a
       → WritesBlock bits IsAddress address_text length_text b → a ≡ b
@@ -55,6 +57,7 @@ module _ (bits : ℕ) (small : bits < 2 ^ 32) (IsAddress : List ℕ → ℕ → 
       (ap (λ n. n + (block_size bits h.length - 1)) start
       ∙ ap (λ n. block_start bits k.length k.address + n) size)
 
+  -- The parts of a range write one range.
   span : (first_text last_text : List ℕ) (a b : RangeInclusive ℕ)
       → WritesSpan IsAddress first_text last_text a
       → WritesSpan IsAddress first_text last_text b → a ≡ b
@@ -63,6 +66,7 @@ module _ (bits : ℕ) (small : bits < 2 ^ 32) (IsAddress : List ℕ → ℕ → 
       (unique (trimmed first_text) h.first k.first h.first_written k.first_written)
       (unique (trimmed last_text) h.last k.last h.last_written k.last_written)
 
+  -- The parts around a slash write at most one range.
   one_or_block : (texts : List (List ℕ)) (a b : RangeInclusive ℕ)
       → WritesOneOrBlock bits IsAddress texts a → WritesOneOrBlock bits IsAddress texts b → a ≡ b
   one_or_block [] a b h k = absurd h
@@ -70,6 +74,7 @@ module _ (bits : ℕ) (small : bits < 2 ^ 32) (IsAddress : List ℕ → ℕ → 
   one_or_block (address ∷ length ∷ []) a b h k = block address length a b h k
   one_or_block (x ∷ y ∷ z ∷ texts) a b h k = absurd h
 
+  -- The parts around a dash write at most one range.
   in_parts : (texts : List (List ℕ)) (a b : RangeInclusive ℕ)
       → WritesParts bits IsAddress texts a → WritesParts bits IsAddress texts b → a ≡ b
   in_parts [] a b h k = absurd h
@@ -81,6 +86,7 @@ module _ (bits : ℕ) (small : bits < 2 ^ 32) (IsAddress : List ℕ → ℕ → 
 
 module _ (bits more : ℕ) (IsAddress IsOther : List ℕ → ℕ → Type 0)
     (apart : (text : List ℕ) (m n : ℕ) → IsAddress text m → IsOther text n → ⊥) where
+  -- The parts around a slash do not write ranges of both families.
   apart_one_or_block : (texts : List (List ℕ)) (a b : RangeInclusive ℕ)
       → WritesOneOrBlock bits IsAddress texts a → WritesOneOrBlock more IsOther texts b → ⊥
   apart_one_or_block [] a b h k = h
@@ -89,6 +95,7 @@ module _ (bits more : ℕ) (IsAddress IsOther : List ℕ → ℕ → Type 0)
       apart address h.address k.address h.address_written k.address_written
   apart_one_or_block (x ∷ y ∷ z ∷ texts) a b h k = h
 
+  -- The parts around a dash do not write ranges of both families.
   apart_parts : (texts : List (List ℕ)) (a b : RangeInclusive ℕ)
       → WritesParts bits IsAddress texts a → WritesParts more IsOther texts b → ⊥
   apart_parts [] a b h k = h
@@ -103,9 +110,11 @@ IsV4-not_v6 text m n h k = IsDotted-not_colon_hex text _ _ h.1 k.1
 
 -- ---- no range to an empty text
 
+-- The text of an IPv4 address is not empty.
 dotted_some : (text octets : List ℕ) → IsDotted text octets → 0 < length text
 dotted_some text octets h = omega (arith, simp length-append at (ap length h.spelled))
 
+-- Eight groups are not an empty text.
 no_groups : (segments : List ℕ) → IsGroups true [] segments → length segments ≡ 8 → ⊥
 no_groups [] h eight = omega arith
 no_groups (s ∷ segments) (inl h) eight =
@@ -113,16 +122,20 @@ no_groups (s ∷ segments) (inl h) eight =
 no_groups (s ∷ segments) (inr h) eight =
     omega (arith, ap length h.3, dotted_some h.0 h.1 h.4)
 
+-- The text of an IPv6 address is not empty.
 no_colon_hex : (segments : List ℕ) → IsColonHex [] segments → ⊥
 no_colon_hex segments (inl h) = no_groups segments h.0 h.1
 no_colon_hex segments (inr h) = omega (arith, simp length-append at (ap length h.spelled))
 
+-- An empty text writes no IPv4 address.
 v4_empty : (n : ℕ) → IsV4 [] n → ⊥
 v4_empty n h = omega (arith, dotted_some [] _ h.1)
 
+-- An empty text writes no IPv6 address.
 v6_empty : (n : ℕ) → IsV6 [] n → ⊥
 v6_empty n h = no_colon_hex _ h.1
 
+-- If an empty text writes no address, it writes no range.
 no_range : (bits : ℕ) (IsAddress : List ℕ → ℕ → Type 0) (text : List ℕ) (range : RangeInclusive ℕ)
     → ((n : ℕ) → IsAddress [] n → ⊥) → text ≡ [] → WritesRange bits IsAddress text range → ⊥
 no_range bits IsAddress text range empty is h =
@@ -131,6 +144,7 @@ no_range bits IsAddress text range empty is h =
 
 -- ---- one meaning to a line
 
+-- A line has at most one meaning.
 pub IsLine_unique : (line : List ℕ) (a b : Line) → IsLine line a → IsLine line b → a ≡ b
 IsLine_unique line Nothing Nothing h k = refl
 IsLine_unique line Nothing (V4 b) h k = absurd (no_range 32 IsV4 (content line) b v4_empty h k)

@@ -18,6 +18,7 @@ use Rattle.ip_sets.proofs.lemmas.spelling.Written.{IsPlain, block_line, decimal_
 no_feed : (byte : ℕ) → IsPlain byte → eqb byte 10 ≡ false
 no_feed byte is = let not_blank = is.no_blank in grind (arith, nat_tests)
 
+-- A text of plain bytes has no line feed.
 no_feeds : (text : List ℕ) → All IsPlain text → All (λ byte. eqb byte 10 ≡ false) text
 no_feeds text plain = All-weaker IsPlain (λ byte. eqb byte 10 ≡ false) no_feed text plain
 
@@ -37,6 +38,7 @@ in_parts bytes first rest second more others separator is between ends =
     is ∙ ap (λ later. first ++ later) between ∙ ap (λ later. first ++ separator ∷ later) ends
     ∙ sym (append_assoc first (separator ∷ second) others)
 
+-- A test that does not hold fails.
 not_true : (test : Bool) → ¬ (test ≡ true) → test ≡ false
 not_true true fails = absurd (fails refl)
 not_true false fails = refl
@@ -66,6 +68,7 @@ module _ (bits : ℕ) (IsAddress : List ℕ → ℕ → Type 0) (fits : bits ≤
   abbrev Means : RangeInclusive ℕ → List ℕ → Type 0
   Means range line = WritesRange bits IsAddress (content line) range
 
+  -- A text that writes an address has only plain bytes.
   plain_text : (text : List ℕ) (n : ℕ) → IsAddress text n → All IsPlain text
   plain_text text n is = plain_unmarked text (unmarked text n is)
 

@@ -38,6 +38,7 @@ unmarked byte is = record {
   no_slash = grind (arith, nat_tests);
 }
 
+-- A text of bytes that may be part of an address has only plain bytes.
 pub plain_unmarked : (text : List ℕ) → All (λ byte. is_mark byte ≡ false) text → All IsPlain text
 plain_unmarked text all =
     All-weaker (λ byte. is_mark byte ≡ false) IsPlain unmarked text all
@@ -54,12 +55,14 @@ module _ (test : ℕ → Bool) where
       let later = all_before text (All-tail (λ byte. test byte ≡ false) x text none) in
       rw fails (omega (arith, later))
 
+  -- If no byte passes, none at the start does.
   none_first : (text : List ℕ) → All (λ byte. test byte ≡ false) text → prefix_len test text ≡ 0
   none_first [] none = refl
   none_first (x ∷ text) none =
       let fails : test x ≡ false = All-head (λ byte. test byte ≡ false) x text none in
       rw fails refl
 
+-- What holds of each byte of a text holds of each byte of the text backwards.
 pub All-reverse : (P : ℕ → Type 0) (text : List ℕ) → All P text → All P (reverse text)
 All-reverse P text all = All-from_get_or P (reverse text) 0 λ k within.
     let inside : k < length text = omega (arith, within, length-reverse text) in
@@ -67,6 +70,7 @@ All-reverse P text all = All-from_get_or P (reverse text) 0 λ k within.
     subst P (sym (get_or-reverse text k 0 inside))
     (All-get_or P text (length text - 1 - k) 0 there all)
 
+-- A text without white space is not trimmed.
 trimmed_plain : (text : List ℕ) → All (λ byte. is_ascii_whitespace byte ≡ false) text
     → trimmed text ≡ text
 trimmed_plain text none =
@@ -82,6 +86,7 @@ pub record IsQuiet (byte : ℕ) : Type 0 where
   no_comment : begins_comment byte ≡ false
   no_blank : is_ascii_whitespace byte ≡ false
 
+-- All of such a line is its content.
 content_quiet : (text : List ℕ) → All IsQuiet text → content text ≡ text
 content_quiet text quiet =
     let no_marks = All-weaker IsQuiet (λ byte. begins_comment byte ≡ false)
@@ -91,29 +96,35 @@ content_quiet text quiet =
     ap trimmed (take_all (position_or_len begins_comment text) text
     (all_before begins_comment text no_marks)) ∙ trimmed_plain text no_blanks
 
+-- A text of plain bytes has only such bytes.
 quiet_plain : (text : List ℕ) → All IsPlain text → All IsQuiet text
 quiet_plain text plain = All-weaker IsPlain IsQuiet
     (λ byte is. record { no_comment = is.no_comment; no_blank = is.no_blank }) text plain
 
+-- A text of plain bytes is not trimmed.
 pub no_blanks_plain : (text : List ℕ) → All IsPlain text → trimmed text ≡ text
 no_blanks_plain text plain = trimmed_plain text
     (All-weaker IsPlain (λ byte. is_ascii_whitespace byte ≡ false) (λ byte is. is.no_blank) text
     plain)
 
+-- A text of plain bytes has no dash.
 no_dash_plain : (text : List ℕ) → All IsPlain text → All (λ byte. eqb byte 45 ≡ false) text
 no_dash_plain text plain =
     All-weaker IsPlain (λ byte. eqb byte 45 ≡ false) (λ byte is. is.no_dash) text plain
 
+-- A text of plain bytes has no slash.
 no_slash_plain : (text : List ℕ) → All IsPlain text → All (λ byte. eqb byte 47 ≡ false) text
 no_slash_plain text plain =
     All-weaker IsPlain (λ byte. eqb byte 47 ≡ false) (λ byte is. is.no_slash) text plain
 
 -- ---- lines of plain parts
 
+-- A text without a separator is one part.
 one_plain : (separator : ℕ) (text : List ℕ) → All (λ byte. eqb byte separator ≡ false) text
     → parts separator text ≡ text ∷ []
 one_plain separator text none = slice_split_none (λ byte. eqb byte separator) text none
 
+-- Two texts without a separator, with one between them, are two parts.
 two_plain : (separator : ℕ) (first second : List ℕ)
     → All (λ byte. eqb byte separator ≡ false) first
     → All (λ byte. eqb byte separator ≡ false) second → eqb separator separator ≡ true
@@ -122,6 +133,7 @@ two_plain separator first second none none_later same =
     slice_split_at (λ byte. eqb byte separator) first separator second none same
     ∙ ap (λ all. first ∷ all) (one_plain separator second none_later)
 
+-- Two texts of plain bytes, with such a byte between them, have only such bytes.
 quiet_both : (first second : List ℕ) (separator : ℕ) → All IsPlain first → All IsPlain second
     → IsQuiet separator → All IsQuiet (first ++ separator ∷ second)
 quiet_both first second separator h k is =
@@ -189,16 +201,19 @@ module _ (bits : ℕ) (IsAddress : List ℕ → ℕ → Type 0) where
 
 -- ---- the texts of addresses
 
--- A byte from `0` on is plain, except `;`.
+-- A byte from `0` on does not begin a comment, except `;`.
 no_comment_from : (byte : ℕ) → 48 ≤ byte → byte ≢ 59 → begins_comment byte ≡ false
 no_comment_from byte low other = grind (arith, nat_tests)
 
+-- A byte from `0` on is not white space.
 no_blank_from : (byte : ℕ) → 48 ≤ byte → is_ascii_whitespace byte ≡ false
 no_blank_from byte low = grind (arith, nat_tests)
 
+-- A byte above another is not that one.
 not_below : (byte n : ℕ) → n < byte → eqb byte n ≡ false
 not_below byte n low = grind (arith, nat_tests)
 
+-- A byte from `0` on is plain, except `;`.
 plain_from : (byte : ℕ) → 48 ≤ byte → byte ≢ 59 → IsPlain byte
 plain_from byte low other = record {
   no_comment = no_comment_from byte low other;
@@ -207,13 +222,16 @@ plain_from byte low other = record {
   no_slash = not_below byte 47 (omega arith);
 }
 
+-- A dot is plain.
 dot_plain : IsPlain 46
 dot_plain = record { no_comment = refl; no_blank = refl; no_dash = refl; no_slash = refl }
 
+-- A digit or a dot is plain.
 digit_plain : (byte : ℕ) → IsDigitOrDot byte → IsPlain byte
 digit_plain byte (inl digit) = plain_from byte digit.0 (λ is. omega (arith, is, digit.1))
 digit_plain byte (inr dot) = subst IsPlain (sym dot) dot_plain
 
+-- A hexadecimal digit or a colon is plain.
 hex_plain : (byte : ℕ) → IsHexOrColon byte → IsPlain byte
 hex_plain byte (inl digit) = plain_from byte digit.0 (λ is. omega (arith, is, digit.1))
 hex_plain byte (inr letter) =
@@ -225,6 +243,7 @@ decimal_plain n fits = All-from_get_or IsPlain (decimal n) 0 λ i within.
     let digit = digit_at (decimal n) i (decimal_is_IsNumeral n fits).0.1 within in
     plain_from (get_or (decimal n) i 0) digit.0 (λ is. omega (arith, is, digit.1))
 
+-- The text of an IPv4 address is plain.
 pub v4_plain : (n : ℕ) → All IsPlain (v4_text n)
 v4_plain n = All-weaker IsDigitOrDot IsPlain digit_plain (v4_text n)
     (All-ipv4_text (to_be_bytes w32 n) (byte_fits 4 n))
@@ -239,17 +258,21 @@ octet_fits (s ∷ segments) fits zero =
 octet_fits (s ∷ segments) fits (suc zero) = omega arith
 octet_fits (s ∷ segments) fits (suc (suc k)) = octet_fits segments (λ j. fits (suc j)) k
 
+-- If two texts are plain, so is the one that a test selects.
 plain_both : (test : Bool) (xs ys : List ℕ) → All IsPlain xs → All IsPlain ys
     → All IsPlain (cond test xs ys)
 plain_both true xs ys h k = h
 plain_both false xs ys h k = k
 
+-- A colon is plain.
 colon_plain : IsPlain 58
 colon_plain = record { no_comment = refl; no_blank = refl; no_dash = refl; no_slash = refl }
 
+-- The letter f is plain.
 f_plain : IsPlain 102
 f_plain = record { no_comment = refl; no_blank = refl; no_dash = refl; no_slash = refl }
 
+-- A plain text with a plain byte before it is plain.
 plain_cons : (byte : ℕ) (text : List ℕ) → IsPlain byte → All IsPlain text
     → All IsPlain (byte ∷ text)
 plain_cons byte text h k = All-cons IsPlain byte text h k
@@ -266,6 +289,7 @@ mapped_plain text plain =
     let second = plain_cons 58 (102 ∷ 102 ∷ 102 ∷ 102 ∷ 58 ∷ text) colon_plain f4 in
     plain_cons 58 (58 ∷ 102 ∷ 102 ∷ 102 ∷ 102 ∷ 58 ∷ text) colon_plain second
 
+-- The text of eight segments is plain.
 text_plain : (segments : List ℕ) → AllSegments segments → All IsPlain (ipv6_text segments)
 unfolding ipv6_text
 text_plain segments fits =
@@ -278,6 +302,7 @@ text_plain segments fits =
     (58 ∷ 58 ∷ 102 ∷ 102 ∷ 102 ∷ 102 ∷ 58 ∷ ipv4_text low) (hex_groups_text segments)
     (mapped_plain (ipv4_text low) dotted) hex
 
+-- The text of an IPv6 address is plain.
 pub v6_plain : (n : ℕ) → All IsPlain (v6_text n)
 v6_plain n =
     let bytes = to_be_bytes w128 n in
