@@ -28,7 +28,7 @@ use std::net::IpAddr;
 /// The words of a command line, with its options apart.
 #[derive(Drop)]
 pub struct Arguments<'a, A: Allocator> {
-    // The words that are no options.
+    // The words that are not options.
     operands: Vec<&'a str, A>,
     options: Options,
     // Whether `--` came. No word after it is an option.

@@ -11,17 +11,17 @@ use std::{fmt, io};
 /// What is wrong with a command line.
 #[derive(Clone, Copy, Debug, PartialEq, Eq)]
 pub enum Misuse<'a> {
-    /// It has no command.
+    /// There is no command.
     NoCommand,
-    /// It has a word that is no command.
+    /// The first word is not a command.
     UnknownCommand(&'a str),
-    /// It has a word that is no option.
+    /// A word is not a known option.
     UnknownOption(&'a str),
-    /// The word after `at-least` is no number from 0 to 2^64 - 1.
+    /// The word after `at-least` is not a number from 0 to 2^64 - 1.
     NoNumber(&'a str),
-    /// The word after `has` is no address.
+    /// The word after `has` is not an address.
     NoAddress(&'a str),
-    /// It has too few words after its command.
+    /// There are too few words after the command.
     TooFewWords,
 }
 
@@ -43,7 +43,8 @@ impl fmt::Display for Misuse<'_> {
 /// The first fault.
 #[derive(Debug, Drop)]
 pub enum Fault<'a> {
-    /// A line of a list is no address, block or range, and not blank. Lines are counted from 1.
+    /// A line of a list is neither blank nor an address, a block or a range. Lines are counted from
+    /// 1.
     BadLine { file: &'a str, line: u64 },
     /// A list could not be read.
     NotRead { file: &'a str, error: io::Error },

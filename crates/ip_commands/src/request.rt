@@ -46,7 +46,7 @@ pub enum Request<'a> {
     Version,
     /// What an operation selects from lists.
     Combine(Combination<'a>),
-    /// How many addresses and blocks of each family some list has.
+    /// How many addresses and blocks of each family are in at least one list.
     Count {
         families: Families,
         files: &'a [&'a str],

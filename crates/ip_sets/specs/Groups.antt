@@ -1,4 +1,4 @@
--- Groups of hexadecimal digits at the front of bytes, and the numbers that they write.
+-- Groups of hexadecimal digits at the start of the bytes, and the numbers that they write.
 use Rattle.std.specs.Prelude.{◌≡◌, ℕ, ◌+◌, ◌*◌, ◌^◌, ◌<◌, ◌≤◌, Bool, true, false, List, [], ◌∷◌, ◌++◌, length}
 use Rattle.std.specs.Char.{digit_value}
 use Rattle.std.specs.Net.Grammar.{IsGroup, IsGroups}

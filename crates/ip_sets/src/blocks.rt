@@ -1,4 +1,4 @@
-//! Sets of addresses as blocks: as few as there can be.
+//! Sets of addresses as the fewest possible blocks.
 
 ghost use Rattle.std.specs.Prelude.{All, List, IfOk, MatchOption};
 ghost use Rattle.range_set_blaze.specs.Runs.{members, Interval};
@@ -28,8 +28,8 @@ use range_set_blaze::{Draw, DrawDisjoint, RangeSetBlaze};
 use span::Span;
 use std::alloc::{AllocError, Allocator};
 
-/// The blocks of a stream of addresses, in ascending order: as few as there can be. They are
-/// computed one by one, and nothing is allocated. After `None`, the iterator must not be called.
+/// The fewest possible blocks of a stream of addresses, in ascending order. They are computed one
+/// by one, and nothing is allocated. After `None`, the iterator must not be called.
 #[derive(Clone, Debug, Drop)]
 pub struct Blocks<T, I> {
     ranges: I,
@@ -118,8 +118,8 @@ pub fn blocks_of<T: Address, I: DrawDisjoint<T>, A: Allocator>(
     Ok(blocks)
 }
 
-/// Returns the list of the blocks of a set: aligned, ascending, with exactly the addresses of the
-/// set, and as few as there can be. If allocation fails, no list is made.
+/// Returns the list of the fewest possible blocks with exactly the addresses of a set: aligned and
+/// ascending. If allocation fails, no list is made.
 pub fn set_blocks<T: Address + 'static, A: Allocator, B: Allocator>(
     alloc: A,
     set: &RangeSetBlaze<T, B>,

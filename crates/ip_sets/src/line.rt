@@ -33,9 +33,9 @@ pub enum Line {
 
 /// Returns what a line means, or `None` if it is bad. It may have a line feed at its end.
 ///
-/// White space around it does not count, and so neither does its line ending. The first `#` or `;`
-/// begins a comment. In `ADDRESS/LENGTH`, the bits past the length are cleared. In
-/// `ADDRESS-ADDRESS`, the two are of one family, and the second is not below the first.
+/// Surrounding white space, including the line ending, is ignored. The first `#` or `;` begins a
+/// comment. In `ADDRESS/LENGTH`, the bits past the length are cleared. In `ADDRESS-ADDRESS`, the
+/// two are of one family, and the second is not below the first.
 pub fn parse_line(line: &[u8]) -> Option<Line>
     ensures { Reads result (IsLine line.now) }
 {

@@ -27,12 +27,12 @@ pub struct AddressList<A: Allocator = Global> {
 }
 
 /// Reads a list to the end of the input, and returns the addresses that its lines mean
-/// (`parse_line`). Until then it keeps the range of each line that has addresses, and a line that
-/// the input's buffer does not have whole.
+/// (`parse_line`). While reading, it holds one range per line with addresses, and any line that is
+/// cut by the end of the buffer.
 ///
 /// `BadLine` has the number of the first bad line; what follows that line is not read. `NoMemory`
-/// is returned if an allocation fails, in a read too. `Io` has the error of a read that fails. It
-/// is also returned if there are 2^64 - 1 lines or more.
+/// is returned if an allocation fails, including one made by a read. `Io` has the error of a read
+/// that fails. It is also returned if there are 2^64 - 1 lines or more.
 pub fn read_list<A: Allocator + Copy, R: BufRead>(
     alloc: A,
     input: &mut R,

@@ -15,21 +15,21 @@ use crate::set::AddressSet;
 use range_set_blaze::DrawDisjoint;
 use std::alloc::{AllocError, Allocator};
 
-/// What is selected from a number of lists. A list that is given twice counts twice.
+/// Which addresses are selected from lists. A list that is given twice counts twice.
 #[derive(Clone, Copy, Debug, PartialEq, Eq)]
 pub enum Operation {
-    /// What at least one list has: nothing if there are no lists.
+    /// Those in at least one list. If there are no lists, there are none.
     Union,
-    /// What every list has: every address if there are no lists.
+    /// Those in every list. If there are no lists, these are all addresses.
     Common,
-    /// What the first list has and no other: nothing if there are no lists.
+    /// Those in the first list and in no other. If there are no lists, there are none.
     Except,
-    /// What an odd number of lists have: nothing if there are no lists.
+    /// Those in an odd number of lists. If there are no lists, there are none.
     Odd,
-    /// What at least the given number of lists have: every address if the number is 0, and nothing
-    /// if there are fewer lists.
+    /// Those in at least the given number of lists. These are all addresses if the number is 0, and
+    /// there are none if there are fewer lists.
     AtLeast(usize),
-    /// What no list has: every address if there are no lists.
+    /// Those in no list. If there are no lists, these are all addresses.
     Complement,
 }
 

@@ -1,4 +1,4 @@
-//! What operations select from lists, as streams of ranges: nothing is collected.
+//! What operations select from lists, as streams of ranges. No list of the result is made.
 
 ghost use Rattle.std.specs.Prelude.{◌≡◌, All, IfOk, List, map};
 ghost use Rattle.range_set_blaze.specs.Runs.{Interval};
@@ -49,7 +49,7 @@ pub fn v6_ranges<'a, A: Allocator>(
     Ok(streams)
 }
 
-/// Returns what at least one of the streams has.
+/// Returns the values in at least one of the streams.
 pub fn union<T: Integer, I: DrawDisjoint<T>, A: Allocator + Copy>(
     alloc: A,
     streams: Vec<I, A>,
@@ -63,7 +63,7 @@ pub fn union<T: Integer, I: DrawDisjoint<T>, A: Allocator + Copy>(
     streams.union(alloc)
 }
 
-/// Returns what all of the streams have.
+/// Returns the values in all of the streams.
 pub fn common<T: Integer, I: DrawDisjoint<T>, A: Allocator + Copy>(
     alloc: A,
     streams: Vec<I, A>,
@@ -77,7 +77,7 @@ pub fn common<T: Integer, I: DrawDisjoint<T>, A: Allocator + Copy>(
     streams.intersection(alloc)
 }
 
-/// Returns what an odd number of the streams have.
+/// Returns the values in an odd number of the streams.
 pub fn odd<T: Integer, I: DrawDisjoint<T>, A: Allocator + Copy>(
     alloc: A,
     streams: Vec<I, A>,
@@ -91,7 +91,7 @@ pub fn odd<T: Integer, I: DrawDisjoint<T>, A: Allocator + Copy>(
     streams.symmetric_difference(alloc)
 }
 
-/// Returns what at least `k` of the streams have.
+/// Returns the values in at least `k` of the streams.
 pub fn at_least<T: Integer, I: DrawDisjoint<T>, A: Allocator + Copy>(
     alloc: A,
     streams: Vec<I, A>,
@@ -106,10 +106,10 @@ pub fn at_least<T: Integer, I: DrawDisjoint<T>, A: Allocator + Copy>(
     streams.at_least(alloc, k)
 }
 
-/// The stream of what no stream has.
+/// The stream of the values in none of some streams.
 pub type Outside<T, I, A> = NotIter<T, MultiwayUnion<T, I, A>>;
 
-/// Returns what none of the streams has.
+/// Returns the values in none of the streams.
 pub fn complement<T: Integer, I: DrawDisjoint<T>, A: Allocator + Copy>(
     alloc: A,
     streams: Vec<I, A>,
@@ -123,10 +123,10 @@ pub fn complement<T: Integer, I: DrawDisjoint<T>, A: Allocator + Copy>(
     Ok(union(alloc, streams)?.complement())
 }
 
-/// The stream of what the first stream has and no other.
+/// The stream of the values in the first of some streams and in no other.
 pub type FirstOnly<T, I, A> = Difference<T, MultiwayUnion<T, I, A>, MultiwayUnion<T, I, A>>;
 
-/// Returns what the first of the streams has, if there is one, and none of the others.
+/// Returns the values in the first of the streams, if there is one, and in none of the others.
 pub fn except<T: Integer, I: DrawDisjoint<T>, A: Allocator + Copy>(
     alloc: A,
     streams: Vec<I, A>,

@@ -30,7 +30,7 @@ decided-false false decides differ = refl
 pub not-same : (xs ys : List ℕ) → xs ≢ ys → bytes_eq xs ys ≡ false
 not-same xs ys differ = decided-false (bytes_eq xs ys) (bytes_eq-Decides xs ys) differ
 
--- A word that is no option is not `--`.
+-- A word that is not an option is not `--`.
 pub no-mark : (word : List ℕ) → is_dashed word ≡ false → is_mark word ≡ false
 no-mark word plain =
     not-same word (codes "--") (λ is. true≢false (subst (λ each. is_dashed each ≡ false) is plain))

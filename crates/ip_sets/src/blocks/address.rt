@@ -24,7 +24,7 @@ pub trait Address: Integer {
         requires { number < Self.value_count }
         ensures { Self.rank result ≡ number };
 
-    // Each number of so many bits is an address.
+    // Every number of `width` bits is an address.
     ghost all_numbers: { Self.value_count ≡ 2 ^ width };
 }
 

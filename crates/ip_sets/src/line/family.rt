@@ -22,8 +22,9 @@ pub(crate) trait Family: Address {
     fn parse(text: &[u8]) -> Option<Self>
         ensures { ReadsNumber Self.rank result (is_address text.now) };
 
-    /// Reads an address at the front of bytes in one of its commonest spellings, faster than
-    /// `parse`. Returns the address and the bytes after it. `None` says nothing about the bytes.
+    /// Reads an address at the start of the bytes in one of its commonest spellings, faster than
+    /// `parse`. Returns the address and the bytes after it. `None` means only that the fast path
+    /// does not apply.
     fn read(bytes: &[u8]) -> Option<(Self, &[u8])>
         ensures { IfSome result (λ read.
             BeginsWith is_address bytes.now (Self.rank read.0) read.1.now) };

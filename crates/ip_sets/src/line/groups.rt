@@ -1,4 +1,4 @@
-//! Groups of hexadecimal digits at the front of bytes, with colons between them.
+//! Groups of hexadecimal digits at the start of bytes, with colons between them.
 
 ghost use Rattle.std.specs.Prelude.{◌≡◌, ◌+◌, ◌*◌, ◌-◌, ◌^◌, ◌<◌, IfSome};
 ghost use Rattle.std.specs.Char.{digit_value};
@@ -8,7 +8,7 @@ ghost use Rattle.ip_sets.specs.Plain.{BeginsWith};
 
 use crate::line::octets::after;
 
-/// Groups at the front of bytes.
+/// Groups at the start of bytes.
 #[derive(Clone, Copy)]
 pub(crate) struct Groups<'a> {
     /// The number that they write, with 16 bits for each group.
@@ -19,7 +19,7 @@ pub(crate) struct Groups<'a> {
     pub(crate) rest: &'a [u8],
 }
 
-/// Reads groups at the front of bytes, up to eight.
+/// Reads up to eight groups at the start of the bytes.
 #[inline(always)]
 pub(crate) fn read_groups(bytes: &[u8]) -> Groups<'_>
     ensures { AreGroups bytes.now result }
@@ -56,8 +56,8 @@ pub(crate) fn elided(first: Groups<'_>, last: Groups<'_>) -> u128
     (first.number << (16 * (8 - first.count))) + last.number
 }
 
-// Reads a group at the front of bytes, after a colon unless it is the first. Returns its value and
-// the bytes after it.
+// Reads a group at the start of the bytes, after a colon unless it is the first. Returns its value
+// and the bytes after it.
 #[inline(always)]
 fn next_group(bytes: &[u8], is_first: bool) -> Option<(u32, &[u8])>
     ensures fits { IfSome result (λ read. read.0 < 2 ^ 16) }
@@ -70,7 +70,7 @@ fn next_group(bytes: &[u8], is_first: bool) -> Option<(u32, &[u8])>
     group(after(bytes, b':')?)
 }
 
-// Reads one to four hexadecimal digits at the front of bytes. Returns their value and the bytes
+// Reads one to four hexadecimal digits at the start of the bytes. Returns their value and the bytes
 // after them.
 #[inline(always)]
 fn group(bytes: &[u8]) -> Option<(u32, &[u8])>
@@ -92,7 +92,7 @@ fn group(bytes: &[u8]) -> Option<(u32, &[u8])>
     Some((three * 16 + fourth, after_fourth))
 }
 
-// Reads a hexadecimal digit at the front of bytes. Returns its value and the bytes after it.
+// Reads a hexadecimal digit at the start of the bytes. Returns its value and the bytes after it.
 #[inline(always)]
 fn hex_digit(bytes: &[u8]) -> Option<(u32, &[u8])>
     ensures { IfSome result (λ read. BeginsWithDigit bytes.now read.0 read.1.now) }
@@ -124,8 +124,8 @@ const HEX_VALUES: [u8; 256] = [
     255, 255, 255,
 ];
 
-// Returns the value of a hexadecimal digit, or 255 for another byte. A test for a letter would go
-// either way about as often.
+// Returns the value of a hexadecimal digit, or 255 for another byte. A branch on letter or digit
+// would be mispredicted about half the time.
 #[inline(always)]
 fn hex_value(byte: u8) -> u8
     ensures { result < 16 → digit_value byte ≡ result }

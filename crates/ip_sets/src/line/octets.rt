@@ -1,9 +1,9 @@
-//! Decimal numbers at the front of bytes, read without a branch on how many digits they have.
+//! Decimal numbers at the start of bytes, read without a branch on how many digits they have.
 
 ghost use Rattle.std.specs.Prelude.{◌≡◌, ℕ, ◌+◌, ◌<◌, ◌≤◌, ◌++◌, ◌∷◌, IfSome, List, cond, decimal, drop, length};
 
-/// Reads the byte at the front of bytes. Returns the bytes after it, or `None` if there is another
-/// byte or none.
+/// Reads `byte` at the start of the bytes. Returns the bytes after it, or `None` if they start with
+/// another byte or are empty.
 #[inline(always)]
 pub(crate) fn after(bytes: &[u8], byte: u8) -> Option<&[u8]>
     ensures { IfSome result (λ rest. bytes.now ≡ byte ∷ rest.now) }
@@ -27,8 +27,8 @@ pub(crate) fn after_at(bytes: &[u8], at: usize, byte: u8) -> Option<usize>
     Some(at + 1)
 }
 
-/// Reads a number below 256 in decimal, without a leading zero, at the front of bytes. Returns the
-/// number and the bytes after it. `None` says nothing if there are fewer than three bytes.
+/// Reads a number below 256 in decimal, without a leading zero, at the start of the bytes. Returns
+/// the number and the bytes after it. `None` may also mean that there are fewer than three bytes.
 #[inline(always)]
 pub(crate) fn octet(bytes: &[u8]) -> Option<(u8, &[u8])>
     ensures fits { IfSome result (λ read. read.0 < 256) }
@@ -55,8 +55,8 @@ pub(crate) fn octet_at(bytes: &[u8], start: usize) -> Option<(u8, usize)>
     Some((number, start + count))
 }
 
-// Reads a number below 256 at the front of three bytes. Returns the number and how many digits it
-// has. Nothing branches on how many they are, which a processor can't predict.
+// Reads a number below 256 at the start of three bytes. Returns the number and how many digits it
+// has. No branch depends on the number of digits, which a processor cannot predict.
 #[inline(always)]
 fn octet_of_three(first: u8, second: u8, third: u8) -> Option<(u8, usize)>
     ensures fits { IfSome result (λ read. read.0 < 256) }

@@ -10,8 +10,8 @@ use crate::line::octets::{after, octet};
 use crate::line::range::block_around;
 use std::ops::RangeInclusive;
 
-/// Reads the first line of the bytes, if it is plain and ends in them. Returns the addresses that it
-/// means and the bytes after it. `None` says nothing about the bytes.
+/// Reads the first line of the bytes, if it is plain and ends in them. Returns the addresses that
+/// it means and the bytes after it. `None` means only that the fast path does not apply.
 #[inline(always)]
 pub(crate) fn plain_line<F: Family>(bytes: &[u8]) -> Option<(RangeInclusive<F>, &[u8])>
     ensures { IfSome result (λ read. BeginsWithLine
@@ -28,7 +28,7 @@ pub(crate) fn plain_line<F: Family>(bytes: &[u8]) -> Option<(RangeInclusive<F>, 
     }
 }
 
-// Reads the length of a block at the front of bytes, and the line feed after it. Returns the
+// Reads the length of a block at the start of the bytes, and the line feed after it. Returns the
 // addresses of the block and the bytes after the line feed.
 #[inline(always)]
 fn plain_block<F: Family>(address: F, bytes: &[u8]) -> Option<(RangeInclusive<F>, &[u8])>
@@ -44,8 +44,8 @@ fn plain_block<F: Family>(address: F, bytes: &[u8]) -> Option<(RangeInclusive<F>
     Some((block_around(address, length), rest))
 }
 
-// Reads the last address of a range at the front of bytes, and the line feed after it. Returns the
-// addresses of the range and the bytes after the line feed.
+// Reads the last address of a range at the start of the bytes, and the line feed after it. Returns
+// the addresses of the range and the bytes after the line feed.
 #[inline(always)]
 fn plain_span<F: Family>(first: F, bytes: &[u8]) -> Option<(RangeInclusive<F>, &[u8])>
     ensures { IfSome result (λ read. EndsSpan F.is_address (F.rank first) bytes.now

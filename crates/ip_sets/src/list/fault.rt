@@ -10,12 +10,12 @@ use std::io::{self, ErrorKind};
 /// The first fault of a list.
 #[derive(Debug, Drop)]
 pub enum ListFault {
-    /// A line is no address, block or range, and not blank. The number is that of the first such
-    /// line, counted from 1.
+    /// A line is neither blank nor an address, a block or a range. The number is that of the first
+    /// such line, counted from 1.
     BadLine(u64),
     /// An allocation failed.
     NoMemory,
-    /// A read failed, or the list has 2^64 - 2 lines or more.
+    /// A read failed, or the list has 2^64 - 1 lines or more.
     Io(io::Error),
 }
 

@@ -51,8 +51,8 @@ impl<A: Allocator> Gathered<A> {
         AddressList { v4, v6 }
     }
 
-    /// Gathers the lines that the input's buffer has whole, up to the first bad one. A line that is
-    /// not gathered is left in the buffer, except a bad one.
+    /// Consumes every complete line in the buffer, up to and including the first bad one. The rest
+    /// stays in the buffer.
     pub(crate) fn add_buffered<R: BufRead>(&mut self, input: &mut R) -> Result<(), ListFault>
         ensures gathered { (bytes : List ℕ) → AreGatheredTo bytes (R.remaining input.old) self.old
             → OnOk result (AreGatheredTo bytes (R.remaining input.new) self.new) }
@@ -77,7 +77,8 @@ impl<A: Allocator> Gathered<A> {
         }
     }
 
-    /// Gathers what a line means. `BadLine` is returned if the line is bad, with its number.
+    /// Adds the addresses that a line means. Returns `BadLine` with the line's number if the line
+    /// is bad.
     #[inline(always)]
     pub(crate) fn add_line(&mut self, meaning: Option<Line>) -> Result<(), ListFault>
         ensures gathered { (line same : List ℕ) (before : List (List ℕ))
@@ -96,8 +97,8 @@ impl<A: Allocator> Gathered<A> {
         Ok(())
     }
 
-    // Gathers the lines of the bytes that end with a line feed, up to the first bad one. Returns the
-    // number of bytes of these lines and of the bad one.
+    // Consumes every complete line of the bytes, up to and including the first bad one. Returns the
+    // number of bytes that it consumed.
     fn add_lines(&mut self, bytes: &[u8]) -> (usize, Result<(), ListFault>)
         ensures within { result.0 ≤ length bytes.now }
         ensures gathered { (all more : List ℕ) → AreGatheredBefore all (bytes.now ++ more) self.old
@@ -117,7 +118,7 @@ impl<A: Allocator> Gathered<A> {
         (bytes.len() - rest.len(), Ok(()))
     }
 
-    // Gathers the range of a line, if it means one.
+    // Adds the range that a line means, if it means one.
     #[inline(always)]
     fn add(&mut self, meaning: Line) -> Result<(), AllocError>
         ensures v4 { (line : List ℕ) → IsLine line meaning → OnOk result

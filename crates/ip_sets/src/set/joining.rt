@@ -14,8 +14,8 @@ pub(crate) fn in_order<T: Address>(pair: &(T, T)) -> bool
     pair.0.number() <= pair.1.number()
 }
 
-/// Returns whether a pair starts within the last one before it or right after its end. The last one
-/// then ends where the later of the two does.
+/// Returns whether `next` starts at most one past the end of `last`. If so, extends `last` to the
+/// end of `next`, unless it already reaches that far.
 #[inline(always)]
 pub(crate) fn joins<T: Address>(next: &mut (T, T), last: &mut (T, T)) -> bool
     ensures next { next.new ≡ next.old }

@@ -14,8 +14,8 @@ use std::marker::Model;
 use std::ops::RangeInclusive;
 use std::slice::Iter;
 
-/// An iterator over the runs of a set of addresses, in ascending order. Contracts see it as the list
-/// of the ranges still to come.
+/// An iterator over the runs of a set of addresses, in ascending order. Contracts see it as the
+/// list of the ranges still to come.
 #[derive(Clone, Drop)]
 pub struct AddressRanges<'a, T: Address> {
     pub(crate) runs: Iter<'a, (T, T)>,

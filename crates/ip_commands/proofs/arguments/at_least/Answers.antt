@@ -13,7 +13,7 @@ returns-in-Ok-clause-request c =
       c.in-Ok.ensures.value.0,
     )
 
--- The word is no number.
+-- The word is not a number.
 pub returns-in-Err-clause-misuse : goal.returns-in-Err-clause-misuse
 returns-in-Err-clause-misuse c =
     let words = c.args.words.now in

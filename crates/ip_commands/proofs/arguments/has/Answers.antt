@@ -13,7 +13,7 @@ returns-in-Ok-clause-request c =
       some-left _ (sym c.if-is_empty.false ∙ c.is_empty.ensures),
     )
 
--- The word is no address.
+-- The word is not an address.
 pub returns-in-Err-clause-misuse : goal.returns-in-Err-clause-misuse
 returns-in-Err-clause-misuse c =
     let words = c.args.words.now in

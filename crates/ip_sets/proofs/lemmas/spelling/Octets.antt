@@ -1,4 +1,4 @@
--- Decimal numbers and IPv4 addresses at the front of bytes.
+-- Decimal numbers and IPv4 addresses at the start of the bytes.
 use Rattle.std.proofs.Common.{◌≡◌, ◌∙◌, ℕ, zero, suc, ◌+◌, ◌*◌, ◌/◌, ◌%◌, ◌<◌, ◌≤◌, eqb, nat_lt, Bool, true, false, cond, ◌&&◌, true≢false, List, [], ◌∷◌, ◌++◌, drop, get_or, length, refl, sym, ap, append_assoc, arith}
 use mir.Val.{bool_byte}
 use Rattle.std.proofs.lemmas.Bool.{and_parts, ltb-true}

@@ -1,4 +1,4 @@
--- Plain lines at the front of bytes mean what they write.
+-- Plain lines at the start of the bytes mean what they write.
 use Rattle.std.proofs.Common.{◌≡◌, ◌∙◌, ℕ, suc, ◌+◌, ◌<◌, ◌≤◌, eqb, Bool, true, false, List, ◌∷◌, ◌++◌, Some, take, drop, get_or, refl, sym, ap, append_assoc, arith}
 use Rattle.std.proofs.Math.Seq.{split_at}
 use Rattle.std.proofs.lemmas.Bool.{eqb-true}
