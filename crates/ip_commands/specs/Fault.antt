@@ -9,18 +9,18 @@ use Rattle.ip_commands.specs.declared.fault.Misuse.TheVariants.{NoAddress, NoCom
 
 -- What is wrong with a command line, in words.
 abbrev pub misuse_text : Misuse → List ℕ
-misuse_text NoCommand = codes "no command"
+misuse_text NoCommand = codes "missing command"
 misuse_text (UnknownCommand word) = codes "unknown command: " ++ word.now
 misuse_text (UnknownOption word) = codes "unknown option: " ++ word.now
-misuse_text (NoNumber word) = codes "no number of lists: " ++ word.now
-misuse_text (NoAddress word) = codes "no address: " ++ word.now
+misuse_text (NoNumber word) = codes "not a number of lists: " ++ word.now
+misuse_text (NoAddress word) = codes "not an address: " ++ word.now
 misuse_text TooFewWords = codes "too few words after the command"
 
 -- The line that reports a fault, without its line feed. The system's words for a failed read or
 -- write are not known.
 abbrev pub fault_text : Fault → Option (List ℕ)
 fault_text (BadLine file line) =
-    Some (file.now ++ codes ":" ++ decimal line ++ codes ": no address, block or range")
+    Some (file.now ++ codes ":" ++ decimal line ++ codes ": not an address, block or range")
 fault_text (NotRead file error) = None
 fault_text (NotWritten error) = None
 fault_text NoMemory = Some (codes "ip_lists: no memory")

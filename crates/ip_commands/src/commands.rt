@@ -44,13 +44,13 @@ impl Outcome {
 
 /// How the program is called.
 pub const HELP: &str = "\
-usage: ip_lists union FILE..          what some list has
-       ip_lists common FILE..         what every list has
-       ip_lists except FILE FILE..    what the first list has and no other
-       ip_lists odd FILE..            what an odd number of lists have
-       ip_lists at-least K FILE..     what at least K of the lists have
-       ip_lists complement FILE..     what no list has
-       ip_lists count FILE..          how many addresses and blocks some list has
+usage: ip_lists union FILE..          addresses in at least one list
+       ip_lists common FILE..         addresses in every list
+       ip_lists except FILE FILE..    addresses in the first list and no other
+       ip_lists odd FILE..            addresses in an odd number of lists
+       ip_lists at-least K FILE..     addresses in at least K lists
+       ip_lists complement FILE..     addresses in no list
+       ip_lists count FILE..          how many addresses and blocks the union has
        ip_lists has ADDRESS FILE..    which lists have the address
 options: --blocks (the default), --ranges, -4, -6, --help, --version
 ";

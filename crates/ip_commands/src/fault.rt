@@ -30,11 +30,11 @@ impl fmt::Display for Misuse<'_> {
 
     fn fmt<W: fmt::Write>(&self, f: &mut fmt::Formatter<W>) -> fmt::Result {
         match self {
-            Misuse::NoCommand => write!(f, "no command"),
+            Misuse::NoCommand => write!(f, "missing command"),
             Misuse::UnknownCommand(word) => write!(f, "unknown command: {word}"),
             Misuse::UnknownOption(word) => write!(f, "unknown option: {word}"),
-            Misuse::NoNumber(word) => write!(f, "no number of lists: {word}"),
-            Misuse::NoAddress(word) => write!(f, "no address: {word}"),
+            Misuse::NoNumber(word) => write!(f, "not a number of lists: {word}"),
+            Misuse::NoAddress(word) => write!(f, "not an address: {word}"),
             Misuse::TooFewWords => write!(f, "too few words after the command"),
         }
     }
@@ -76,7 +76,7 @@ impl fmt::Display for Fault<'_> {
     fn fmt<W: fmt::Write>(&self, f: &mut fmt::Formatter<W>) -> fmt::Result {
         match self {
             Fault::BadLine { file, line } => {
-                write!(f, "{file}:{line}: no address, block or range")
+                write!(f, "{file}:{line}: not an address, block or range")
             }
             Fault::NotRead { file, error } => write!(f, "{file}: {error}"),
             Fault::NotWritten(error) => write!(f, "output: {error}"),

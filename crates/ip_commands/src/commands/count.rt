@@ -20,7 +20,7 @@ use std::io::{self, Write};
 // The number of all IPv6 addresses, which is 2^128.
 const ALL_V6: &str = "340282366920938463463374607431768211456";
 
-/// Writes how many addresses and blocks of each family some list has.
+/// Writes how many addresses and blocks of each family are in at least one list.
 pub(crate) fn write_counts<'a, A: Allocator + Copy, I: Inputs, W: Write>(
     alloc: A,
     inputs: &I,

@@ -14,21 +14,25 @@ static ROWS: [Row; 24] = [
     (
         &["union", "a", "bad", "none"],
         2,
-        "bad:2: no address, block or range\n",
+        "bad:2: not an address, block or range\n",
     ),
     (
         &["has", "10.0.0.1", "a", "bad"],
         2,
-        "bad:2: no address, block or range\n",
+        "bad:2: not an address, block or range\n",
     ),
-    (&["count", "bad"], 2, "bad:2: no address, block or range\n"),
+    (
+        &["count", "bad"],
+        2,
+        "bad:2: not an address, block or range\n",
+    ),
     (
         &["union", "a", "none", "bad"],
         4,
         "none: entity not found\n",
     ),
-    (&[], 64, "ip_lists: no command\n"),
-    (&["-4"], 64, "ip_lists: no command\n"),
+    (&[], 64, "ip_lists: missing command\n"),
+    (&["-4"], 64, "ip_lists: missing command\n"),
     (&["unite", "a"], 64, "ip_lists: unknown command: unite\n"),
     (&["union", "-5", "a"], 64, "ip_lists: unknown option: -5\n"),
     (
@@ -54,7 +58,7 @@ static ROWS: [Row; 24] = [
     (
         &["at-least", "two", "a"],
         64,
-        "ip_lists: no number of lists: two\n",
+        "ip_lists: not a number of lists: two\n",
     ),
     (
         &["at-least", "two"],
@@ -64,12 +68,12 @@ static ROWS: [Row; 24] = [
     (
         &["at-least", "--", "-1", "a"],
         64,
-        "ip_lists: no number of lists: -1\n",
+        "ip_lists: not a number of lists: -1\n",
     ),
     (
         &["at-least", "18446744073709551616", "a"],
         64,
-        "ip_lists: no number of lists: 18446744073709551616\n",
+        "ip_lists: not a number of lists: 18446744073709551616\n",
     ),
     (&["has"], 64, "ip_lists: too few words after the command\n"),
     (
@@ -80,7 +84,7 @@ static ROWS: [Row; 24] = [
     (
         &["has", "10.0.0.0/8", "a"],
         64,
-        "ip_lists: no address: 10.0.0.0/8\n",
+        "ip_lists: not an address: 10.0.0.0/8\n",
     ),
     (
         &["count"],

@@ -8,7 +8,7 @@ use Rattle.ip_commands.proofs.lemmas.Files.{all-good, name_of, passed-on}
 use Rattle.ip_commands.specs.declared.fault.Fault.TheVariants.{NotWritten}
 use Rattle.ip_commands.proofs.commands.count.write_counts.Goals as goal
 
--- What some list has was counted.
+-- The addresses in at least one list were counted.
 pub returns-clause-answer : goal.returns-clause-answer
 returns-clause-answer g c =
     let lists = c.in_ok-lists.lists.items in
