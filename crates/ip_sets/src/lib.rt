@@ -1,5 +1,5 @@
-//! Lists of IP addresses: what they select, operations on them, and the fewest blocks of a set of
-//! addresses.
+//! Lists of IP addresses: what they select, operations on them, the fewest blocks of a set of
+//! addresses, and addresses as text.
 #![tactic(auto)]
 
 pub mod blocks;

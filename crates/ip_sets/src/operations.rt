@@ -33,8 +33,9 @@ pub enum Operation {
     Complement,
 }
 
-/// Returns what an operation selects from the lists, in each family. If allocation fails, no list
-/// is made.
+/// Returns the list of the addresses that an operation selects from the lists, in each family. To
+/// read the addresses only once, without a list of them, call the operation's function in
+/// `selection`. If allocation fails, no list is made.
 pub fn combine<A: Allocator + Copy>(
     alloc: A,
     operation: Operation,
