@@ -13,7 +13,7 @@ use std::{fmt, io};
 pub enum Misuse<'a> {
     /// There is no command.
     NoCommand,
-    /// The first word is not a command.
+    /// The first operand is not a command.
     UnknownCommand(&'a str),
     /// A word is not a known option.
     UnknownOption(&'a str),
