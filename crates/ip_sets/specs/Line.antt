@@ -13,8 +13,7 @@ use Rattle.ip_sets.specs.LineParts.{trimmed}
 abbrev pub begins_comment : ℕ → Bool
 begins_comment byte = (byte == 35) || (byte == 59)
 
--- Whether the byte is part of no address. Each byte with a meaning of its own in a line is such a
--- byte.
+-- Whether no address has the byte. Each byte with a meaning of its own in a line is such a byte.
 abbrev pub is_mark : ℕ → Bool
 is_mark byte = nat_lt byte 46 || (byte == 47) || (byte == 59)
 

@@ -23,7 +23,7 @@ pub record HasAddress (Means : List ℕ → ℕ → ℕ → Type 0) (number : �
   pub from_first : first ≤ number
   pub to_last : number ≤ last
 
--- Whether the selected numbers are those of the addresses of a family that some of the lines means.
+-- Whether the selected numbers are those of the addresses of a family that at least one line means.
 abbrev pub AreAddressesOf : (List ℕ → ℕ → ℕ → Type 0) → List (List ℕ) → Selection → Type 0
 AreAddressesOf Means list selected =
     (number : ℕ) → IsTrue (selected number) ↔ Any (HasAddress Means number) list
