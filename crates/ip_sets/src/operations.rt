@@ -2,9 +2,7 @@
 
 ghost use Rattle.std.specs.Prelude.{◌^◌, All, IfOk, List, map};
 ghost use Rattle.range_set_blaze.specs.Multiway.{IsMadeOf};
-ghost use Rattle.range_set_blaze.specs.Runs.{AreRuns, Interval, members};
-ghost use Rattle.range_set_blaze.specs.Selection.{Agree, Selection};
-ghost use Rattle.rsb_streams.specs.Stream.{◌⊆◌};
+ghost use Rattle.range_set_blaze.specs.Runs.{Interval};
 ghost use Rattle.ip_sets.specs.Operation.{selected_by};
 ghost use Rattle.ip_sets.specs.Selection.{GiveEach};
 
@@ -64,27 +62,11 @@ fn combined<T: Address, I: DrawDisjoint<T>, A: Allocator + Copy>(
         → IfOk result (λ set. IsMadeOf T.value_count (selected_by operation) sets set) }
 {
     match operation {
-        Operation::Union => collected(alloc, union(alloc, streams)),
-        Operation::Common => collected(alloc, common(alloc, streams)),
-        Operation::Except => collected(alloc, except(alloc, streams)),
-        Operation::Odd => collected(alloc, odd(alloc, streams)),
-        Operation::AtLeast(k) => collected(alloc, at_least(alloc, streams, k)),
-        Operation::Complement => collected(alloc, complement(alloc, streams)),
-    }
-}
-
-// Returns the set of the addresses of a ready stream, if it was made.
-fn collected<T: Address, I: DrawDisjoint<T>, A: Allocator>(
-    alloc: A,
-    made: Result<I, AllocError>,
-) -> Result<AddressSet<T, A>, AllocError>
-    requires { IfOk made I.can_draw }
-    ensures { (selected : Selection)
-        → IfOk made (λ stream. I.may_give stream ⊆ AreRuns T.value_count selected)
-        → IfOk result (λ set. Agree T.value_count (members set) selected) }
-{
-    match made {
-        Ok(ranges) => AddressSet::from_ranges(alloc, ranges),
-        Err(error) => Err(error),
+        Operation::Union => AddressSet::from_ranges(alloc, union(alloc, streams)?),
+        Operation::Common => AddressSet::from_ranges(alloc, common(alloc, streams)?),
+        Operation::Except => AddressSet::from_ranges(alloc, except(alloc, streams)?),
+        Operation::Odd => AddressSet::from_ranges(alloc, odd(alloc, streams)?),
+        Operation::AtLeast(k) => AddressSet::from_ranges(alloc, at_least(alloc, streams, k)?),
+        Operation::Complement => AddressSet::from_ranges(alloc, complement(alloc, streams)?),
     }
 }

@@ -1,5 +1,6 @@
 -- What operations select from the streams of lists.
 use Rattle.std.proofs.Common.{◌≡◌, ℕ, Bool, true, false, ◌&&◌, ◌||◌, drop, length, take, List, [], ◌∷◌, map, not, refl, ap, subst, sym, arith}
+use Rattle.std.proofs.lemmas.Result.{IfOk-weaker}
 use Rattle.std.specs.Prelude.{IfOk, Result, min}
 use Rattle.range_set_blaze.specs.Multiway.{IsMadeOf}
 use Rattle.range_set_blaze.specs.Runs.{AreRuns, Interval, members}
@@ -100,10 +101,13 @@ first-agrees n (runs ∷ sets) rank below = by (members runs rank)
     by true = refl
     by false = refl
 
--- If the operation is the one that was asked for, what was asked for was made.
+-- If the operation is the one that was asked for, and the set has the runs of what it selects, what
+-- was asked for was made.
 pub as-made : {E : Type 0} (n : ℕ) (operation which : Operation) (sets : List (List Interval))
-    (result : Result (List Interval) E) → operation ≡ which
-    → IfOk result (λ set. IsMadeOf n (selected_by which) sets set)
+    (gives : Outcomes) (result : Result (List Interval) E) → operation ≡ which
+    → gives ⊆ AreRuns n (selected_by which (map members sets)) → IfOk result gives
     → IfOk result (λ set. IsMadeOf n (selected_by operation) sets set)
-as-made n operation which sets result is made =
-    subst (λ each. IfOk result (λ set. IsMadeOf n (selected_by each) sets set)) (sym is) made
+as-made n operation which sets gives result is only made =
+    subst (λ each. IfOk result (λ set. IsMadeOf n (selected_by each) sets set)) (sym is)
+    (IfOk-weaker result gives _
+    (λ set may. runs-members n (selected_by which (map members sets)) set (only set may)) made)
