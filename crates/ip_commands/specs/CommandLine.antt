@@ -14,7 +14,7 @@ use Rattle.ip_commands.specs.declared.arguments.Question.TheVariants as Asked
 use Rattle.ip_commands.specs.declared.fault.Fault.{Fault}
 use Rattle.ip_commands.specs.declared.fault.Fault.TheVariants.{BadLine, CommandLine, NoMemory, NotRead, NotWritten}
 use Rattle.ip_commands.specs.declared.fault.Misuse.{Misuse}
-use Rattle.ip_commands.specs.declared.fault.Misuse.TheVariants.{NoAddress, NoCommand, NoNumber, TooFewWords, UnknownCommand, UnknownOption}
+use Rattle.ip_commands.specs.declared.fault.Misuse.TheVariants.{NoAddress, NoCommand, NoNumber, NotText, TooFewWords, UnknownCommand, UnknownOption}
 use Rattle.ip_commands.specs.declared.request.Families.{Families}
 use Rattle.ip_commands.specs.declared.request.Families.TheVariants.{Both, V4, V6}
 use Rattle.ip_commands.specs.declared.request.Form.{Form}
@@ -152,6 +152,7 @@ IsMisuseOfOperands operands (NoAddress word) = (files : List (List ℕ))
 IsMisuseOfOperands operands TooFewWords = (command : List ℕ) × (others : List (List ℕ))
     × (operands ≡ command ∷ others)
     × IsSomeAnd (words_needed command) (λ needed. length others < needed)
+IsMisuseOfOperands operands NotText = ⊥
 
 -- ---- what words ask for
 

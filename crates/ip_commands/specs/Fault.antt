@@ -5,7 +5,7 @@ use Rattle.ip_commands.specs.declared.commands.Outcome.TheVariants.{Done, InNone
 use Rattle.ip_commands.specs.declared.fault.Fault.{Fault}
 use Rattle.ip_commands.specs.declared.fault.Fault.TheVariants.{BadLine, CommandLine, NoMemory, NotRead, NotWritten}
 use Rattle.ip_commands.specs.declared.fault.Misuse.{Misuse}
-use Rattle.ip_commands.specs.declared.fault.Misuse.TheVariants.{NoAddress, NoCommand, NoNumber, TooFewWords, UnknownCommand, UnknownOption}
+use Rattle.ip_commands.specs.declared.fault.Misuse.TheVariants.{NoAddress, NoCommand, NoNumber, NotText, TooFewWords, UnknownCommand, UnknownOption}
 
 -- What is wrong with a command line, in words.
 abbrev pub misuse_text : Misuse → List ℕ
@@ -15,6 +15,7 @@ misuse_text (UnknownOption word) = codes "unknown option: " ++ word.now
 misuse_text (NoNumber word) = codes "not a number of lists: " ++ word.now
 misuse_text (NoAddress word) = codes "not an address: " ++ word.now
 misuse_text TooFewWords = codes "too few words after the command"
+misuse_text NotText = codes "an argument is not UTF-8"
 
 -- The line that reports a fault, without its line feed. The system's words for a failed read or
 -- write are not known.

@@ -1,5 +1,5 @@
 -- How the program ends, from the words after its name and the files to its output.
-use Rattle.std.specs.Prelude.{ℕ, All, List, Option, Result, Ok, Err}
+use Rattle.std.specs.Prelude.{◌≡◌, ℕ, ◌⊎◌, All, List, Option, Result, Ok, Err}
 use Rattle.std.specs.Io.KnownBytes.{Keeps}
 use Rattle.ip_commands.specs.Answer.{Answers}
 use Rattle.ip_commands.specs.CommandLine.{IsMisuse, IsRequest}
@@ -8,6 +8,7 @@ use Rattle.ip_commands.specs.Request.{files_of}
 use Rattle.ip_commands.specs.declared.commands.Outcome.{Outcome}
 use Rattle.ip_commands.specs.declared.fault.Fault.{Fault}
 use Rattle.ip_commands.specs.declared.fault.Fault.TheVariants.{BadLine, CommandLine, NoMemory, NotRead, NotWritten}
+use Rattle.ip_commands.specs.declared.fault.Misuse.TheVariants.{NotText}
 use Rattle.ip_commands.specs.declared.request.Request.{Request}
 
 -- `bytes` are those of the file with a name, and `old` and `new` those of the output, if they are
@@ -32,3 +33,19 @@ module _ (bytes : List ℕ → Option (List ℕ)) (words : List (List ℕ)) (old
     Ends (Ok outcome) =
         (request : Request) × IsRequest words request × Answers bytes request outcome old new
     Ends (Err fault) = EndsInFault fault
+
+-- Whether the fault can come before the words are known: a failed allocation, or an argument that is
+-- not UTF-8.
+abbrev pub IsBeforeWords : Fault → Type 0
+IsBeforeWords (BadLine file line) = ⊥
+IsBeforeWords (NotRead file error) = ⊥
+IsBeforeWords (NotWritten error) = ⊥
+IsBeforeWords NoMemory = Unit {0}
+IsBeforeWords (CommandLine misuse) = misuse ≡ NotText
+
+-- Whether the program can end like this: on some words and some output, or before it has words.
+abbrev pub EndsOnSomeWords : (List ℕ → Option (List ℕ)) → Result Outcome Fault → Type 0
+EndsOnSomeWords bytes (Ok outcome) = (words : List (List ℕ)) × (old new : Option (List ℕ))
+    × Ends bytes words old new (Ok outcome)
+EndsOnSomeWords bytes (Err fault) = IsBeforeWords fault
+    ⊎ ((words : List (List ℕ)) × (old new : Option (List ℕ)) × Ends bytes words old new (Err fault))

@@ -23,6 +23,8 @@ pub enum Misuse<'a> {
     NoAddress(&'a str),
     /// There are too few words after the command.
     TooFewWords,
+    /// A word is not UTF-8.
+    NotText,
 }
 
 impl fmt::Display for Misuse<'_> {
@@ -36,6 +38,7 @@ impl fmt::Display for Misuse<'_> {
             Misuse::NoNumber(word) => write!(f, "not a number of lists: {word}"),
             Misuse::NoAddress(word) => write!(f, "not an address: {word}"),
             Misuse::TooFewWords => write!(f, "too few words after the command"),
+            Misuse::NotText => write!(f, "an argument is not UTF-8"),
         }
     }
 }

@@ -7,6 +7,7 @@ mod fault;
 mod inputs;
 mod laws;
 mod page;
+mod process;
 mod program;
 mod request;
 mod system;
@@ -20,6 +21,7 @@ pub use crate::inputs::Inputs;
 pub use crate::laws::{
     answer_is_unique, answer_reads_back, output_is_written_again, output_reads_back,
 };
+pub use crate::process::start_from_env;
 pub use crate::program::{finish, start};
 pub use crate::request::{Combination, Families, Form, Request};
-pub use crate::system::SystemInputs;
+pub use crate::system::{Source, SystemInputs};

@@ -1,0 +1,71 @@
+//! The program with the arguments of its process.
+
+ghost use Rattle.std.specs.Prelude.{◌≡◌, ◌≢◌, IfErr, IsOk, Result};
+ghost use Rattle.std.specs.Io.KnownBytes.{Keeps};
+ghost use Rattle.std.specs.Process.{exit_status};
+ghost use Rattle.std.specs.IoError.{error_kind};
+ghost use Rattle.std.specs.declared.io.ErrorKind.{ErrorKind};
+ghost use Rattle.ip_commands.specs.Fault.{status_after};
+ghost use Rattle.ip_commands.specs.Program.{EndsOnSomeWords, IsBeforeWords};
+ghost use Rattle.ip_commands.specs.declared.commands.Outcome.{Outcome};
+ghost use Rattle.ip_commands.specs.declared.fault.Fault.{Fault};
+
+use crate::fault::{Fault, Misuse};
+use crate::inputs::Inputs;
+use crate::program::{finish, start};
+use std::alloc::Alloc;
+use std::env::{self, Env};
+use std::io::{self, BufWriter, ErrorKind, Write};
+use std::process::ExitCode;
+
+/// The number of bytes that are written at a time.
+const PART: usize = 65_536;
+
+/// Runs the program on the arguments of its process, and returns its exit status. It writes a line
+/// for a fault to `errors`. An argument that is not UTF-8 is a wrong command line.
+pub fn start_from_env<R: Env + Alloc, I: Inputs, W: Write + Drop, E: Write>(
+    rt: &R,
+    inputs: &I,
+    output: W,
+    errors: &mut E,
+) -> ExitCode
+where
+    R::A: Copy,
+    ensures ends { (end : Result Outcome Fault) × EndsOnSomeWords (I.bytes inputs.now) end
+        × (exit_status result ≡ status_after end)
+        × (IsOk end → Keeps (E.contents errors.old) (E.contents errors.new)) }
+{
+    match prepared(rt, output) {
+        Ok((words, mut output)) => start(rt.alloc(), &words, inputs, &mut output, errors),
+        Err(fault) => finish(errors, Err(fault)),
+    }
+}
+
+// Returns the words after the program's name, and a buffer before the output.
+fn prepared<R: Env + Alloc, W: Write + Drop>(
+    rt: &R,
+    output: W,
+) -> Result<(Vec<String<R::A>, R::A>, BufWriter<W, R::A>), Fault<'static>>
+    ensures { IfErr result IsBeforeWords }
+{
+    let words = match env::args(rt) {
+        Ok(arguments) => arguments.skip(1).collect(rt.alloc())?,
+        Err(error) => return Err(no_arguments(error)),
+    };
+    match BufWriter::with_capacity(rt.alloc(), PART, output) {
+        Ok(output) => Ok((words, output)),
+        Err(_) => Err(Fault::NoMemory),
+    }
+}
+
+// Returns the fault of arguments that could not be read.
+fn no_arguments(error: io::Error) -> Fault<'static>
+    ensures memory { error_kind error ≡ ErrorKind.OutOfMemory → result ≡ Fault.NoMemory }
+    ensures others { error_kind error ≢ ErrorKind.OutOfMemory
+        → result ≡ Fault.CommandLine Misuse.NotText }
+{
+    match error.kind() {
+        ErrorKind::OutOfMemory => Fault::NoMemory,
+        _ => Fault::CommandLine(Misuse::NotText),
+    }
+}
