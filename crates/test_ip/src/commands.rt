@@ -3,4 +3,8 @@
 mod answers;
 mod ends;
 mod faults;
+mod many_parts;
+mod process;
+mod reads;
 mod refusals;
+mod writes;
