@@ -3,6 +3,7 @@
 mod answers;
 mod ends;
 mod faults;
+mod known;
 mod many_parts;
 mod process;
 mod reads;
