@@ -1,7 +1,10 @@
 //! The lists of files.
 
-ghost use Rattle.std.specs.Prelude.{◌≡◌, ℕ, IfErr, IfOk, List, map};
+ghost use Rattle.std.specs.Prelude.{◌≡◌, ◌≢◌, ℕ, IfErr, IfOk, List, map};
+ghost use Rattle.std.specs.IoError.{error_kind};
+ghost use Rattle.std.specs.declared.io.ErrorKind.{ErrorKind};
 ghost use Rattle.ip_commands.specs.Files.{AreFilesOf, IsFaultOf, IsFileOf, IsFirstFault, IsNotRead, selected};
+ghost use Rattle.ip_commands.specs.declared.fault.Fault.{Fault};
 
 use crate::fault::Fault;
 use crate::inputs::Inputs;
@@ -52,7 +55,10 @@ fn read_file<'a, A: Allocator + Copy, I: Inputs>(
 
 // Returns the fault of a file that could not be read.
 fn not_read<'a>(file: &'a str, error: io::Error) -> Fault<'a>
-    ensures { IsNotRead file.now result }
+    ensures not_read { IsNotRead file.now result }
+    ensures memory { error_kind error ≡ ErrorKind.OutOfMemory → result ≡ Fault.NoMemory }
+    ensures others { error_kind error ≢ ErrorKind.OutOfMemory
+        → result ≡ Fault.NotRead file.entry error }
 {
     match error.kind() {
         ErrorKind::OutOfMemory => Fault::NoMemory,
