@@ -43,9 +43,15 @@ IsBeforeWords (NotWritten error) = ⊥
 IsBeforeWords NoMemory = Unit {0}
 IsBeforeWords (CommandLine misuse) = misuse ≡ NotText
 
--- Whether the program can end like this: on some words and some output, or before it has words.
-abbrev pub EndsOnSomeWords : (List ℕ → Option (List ℕ)) → Result Outcome Fault → Type 0
-EndsOnSomeWords bytes (Ok outcome) = (words : List (List ℕ)) × (old new : Option (List ℕ))
-    × Ends bytes words old new (Ok outcome)
-EndsOnSomeWords bytes (Err fault) = IsBeforeWords fault
-    ⊎ ((words : List (List ℕ)) × (old new : Option (List ℕ)) × Ends bytes words old new (Err fault))
+-- Whether the program can end like this before it has words, and writes nothing.
+pub record EndsBeforeWords (old new : Option (List ℕ)) (end : Result Outcome Fault) : Type 0 where
+  pub fault : Fault
+  pub ends : end ≡ Err fault
+  pub before : IsBeforeWords fault
+  pub keeps : Keeps old new
+
+-- Whether the program can end like this on some words, or before it has words.
+abbrev pub EndsOnSomeWords : (List ℕ → Option (List ℕ)) → (old new : Option (List ℕ))
+    → Result Outcome Fault → Type 0
+EndsOnSomeWords bytes old new end = ((words : List (List ℕ)) × Ends bytes words old new end)
+    ⊎ EndsBeforeWords old new end

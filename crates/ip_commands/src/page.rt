@@ -8,7 +8,7 @@ use arrayvec::ArrayVec;
 use std::io::{self, Write};
 
 /// The number of bytes that a page holds.
-pub(crate) const PAGE: usize = 4_096;
+pub(crate) const PAGE: usize = 65_536;
 
 /// The number of bytes that a page has room for after `make_room`: more than the longest line has,
 /// which is a range of IPv6 addresses.

@@ -15,46 +15,37 @@ use crate::inputs::Inputs;
 use crate::program::{finish, start};
 use std::alloc::Alloc;
 use std::env::{self, Env};
-use std::io::{self, BufWriter, ErrorKind, Write};
+use std::io::{self, ErrorKind, Write};
 use std::process::ExitCode;
-
-/// The number of bytes that are written at a time.
-const PART: usize = 65_536;
 
 /// Runs the program on the arguments of its process, and returns its exit status. It writes a line
 /// for a fault to `errors`. An argument that is not UTF-8 is a wrong command line.
-pub fn start_from_env<R: Env + Alloc, I: Inputs, W: Write + Drop, E: Write>(
+pub fn start_from_env<R: Env + Alloc, I: Inputs, W: Write, E: Write>(
     rt: &R,
     inputs: &I,
-    output: W,
+    output: &mut W,
     errors: &mut E,
 ) -> ExitCode
 where
     R::A: Copy,
-    ensures ends { (end : Result Outcome Fault) × EndsOnSomeWords (I.bytes inputs.now) end
+    ensures ends { (end : Result Outcome Fault)
+        × EndsOnSomeWords (I.bytes inputs.now) (W.contents output.old) (W.contents output.new) end
         × (exit_status result ≡ status_after end)
         × (IsOk end → Keeps (E.contents errors.old) (E.contents errors.new)) }
 {
-    match prepared(rt, output) {
-        Ok((words, mut output)) => start(rt.alloc(), &words, inputs, &mut output, errors),
+    match words_of(rt) {
+        Ok(words) => start(rt.alloc(), &words, inputs, output, errors),
         Err(fault) => finish(errors, Err(fault)),
     }
 }
 
-// Returns the words after the program's name, and a buffer before the output.
-fn prepared<R: Env + Alloc, W: Write + Drop>(
-    rt: &R,
-    output: W,
-) -> Result<(Vec<String<R::A>, R::A>, BufWriter<W, R::A>), Fault<'static>>
+// Returns the words after the program's name.
+fn words_of<R: Env + Alloc>(rt: &R) -> Result<Vec<String<R::A>, R::A>, Fault<'static>>
     ensures { IfErr result IsBeforeWords }
 {
-    let words = match env::args(rt) {
-        Ok(arguments) => arguments.skip(1).collect(rt.alloc())?,
-        Err(error) => return Err(no_arguments(error)),
-    };
-    match BufWriter::with_capacity(rt.alloc(), PART, output) {
-        Ok(output) => Ok((words, output)),
-        Err(_) => Err(Fault::NoMemory),
+    match env::args(rt) {
+        Ok(arguments) => Ok(arguments.skip(1).collect(rt.alloc())?),
+        Err(error) => Err(no_arguments(error)),
     }
 }
 

@@ -5,5 +5,10 @@ use ip_commands::{SystemInputs, start_from_env};
 use std::process::ExitCode;
 
 fn main(rt: HostRuntime) -> ExitCode {
-    start_from_env(&rt, &SystemInputs::new(&rt), rt.stdout(), &mut rt.stderr())
+    start_from_env(
+        &rt,
+        &SystemInputs::new(&rt),
+        &mut rt.stdout(),
+        &mut rt.stderr(),
+    )
 }

@@ -55,8 +55,8 @@ static ROWS: [Row; 10] = [
         b"",
         b"n",
     ),
-    (&[b"ip_lists"], 64, b"", b"ip_lists: no command\n"),
-    (&[], 64, b"", b"ip_lists: no command\n"),
+    (&[b"ip_lists"], 64, b"", b"ip_lists: missing command\n"),
+    (&[], 64, b"", b"ip_lists: missing command\n"),
     (
         &[b"ip_lists", b"has", b"10.0.0.1", b"\xff"],
         64,
@@ -145,11 +145,11 @@ fn needed(alloc: Global, words: &[&[u8]]) -> Option<usize> {
     None
 }
 
-// `--version` allocates only for the arguments and the output.
+// `--version` allocates only for the arguments.
 #[test]
 fn each_allocation_before_the_start_fails_in_turn(rt: HostRuntime) {
     let version: &[&[u8]] = &[b"ip_lists", b"--version"];
-    assert!(rt; matches!(needed(rt.alloc(), version), Some(5..)));
+    assert!(rt; matches!(needed(rt.alloc(), version), Some(2..)));
     let union: &[&[u8]] = &[b"ip_lists", b"union", b"a", b"b"];
     assert!(rt; matches!(needed(rt.alloc(), union), Some(10..)));
 }

@@ -10,7 +10,7 @@ use std::process::ExitCode;
 const RANGES: usize = 800;
 
 /// The least number of bytes that a full page has.
-const PAGE: usize = 4_000;
+const PAGE: usize = 65_000;
 
 /// A writer that counts its calls, and the bytes and line feeds that it takes.
 #[derive(Drop)]
