@@ -1,0 +1,20 @@
+use Rattle.std.proofs.Common.{inr, refl}
+use Rattle.std.specs.Prelude.{Err}
+use Rattle.ip_commands.proofs.lemmas.Appends.{Keeps-itself}
+use Rattle.ip_commands.proofs.process.start_from_env.Goals as goal
+
+-- The words could not be read, and nothing was written.
+pub returns-in-Err : goal.returns-in-Err
+returns-in-Err g c = record {
+  ends = (
+    Err c.in-Err.fault,
+    inr (record {
+      fault = c.in-Err.fault;
+      ends = refl;
+      before = c.in-Err.ensures;
+      keeps = Keeps-itself (g.W.Write.contents c.args.output.now);
+    }),
+    c.finish.ensures.status,
+    c.finish.ensures.quiet,
+  );
+}
