@@ -1,6 +1,6 @@
 //! A caller over any inputs whose bytes are known, and inputs that it can be called with.
 
-ghost use Rattle.std.specs.Prelude.{◌≡◌, ℕ, [], ◌∷◌, if◌then◌else◌, List, None, OnOk, Some, bytes_eq, codes, map};
+ghost use Rattle.std.specs.Prelude.{◌≡◌, ℕ, [], ◌∷◌, if◌then◌else◌, IfOk, List, None, Some, bytes_eq, codes, map};
 ghost use Rattle.ip_commands.specs.Answer.{IsCombined};
 ghost use Rattle.ip_commands.specs.ReadBack.{AreKnown, ReadsAsCombined};
 
@@ -41,11 +41,11 @@ fn selects_exactly<'a, I: Inputs>(
     combination: Combination<'a>,
 ) -> Result<Vec<u8>, Fault<'a>>
     requires known { AreKnown (I.bytes inputs.now)
-        (map (λ name. name.now) combination.entry.files.now) }
-    ensures text { OnOk result ((text : List ℕ)
-        → IsCombined (I.bytes inputs.now) combination.entry text → result.items ≡ text) }
-    ensures reads { OnOk result
-        (ReadsAsCombined (I.bytes inputs.now) combination.entry result.items) }
+        (map (λ name. name.now) combination.files.now) }
+    ensures text { IfOk result (λ output. (text : List ℕ)
+        → IsCombined (I.bytes inputs.now) combination.entry text → output.items ≡ text) }
+    ensures reads { IfOk result (λ output.
+        ReadsAsCombined (I.bytes inputs.now) combination.entry output.items) }
 {
     let mut output = Vec::new(alloc);
     run(alloc, inputs, Request::Combine(combination), &mut output)?;

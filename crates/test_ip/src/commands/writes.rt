@@ -46,7 +46,8 @@ fn ranges(alloc: Global) -> io::Result<Vec<u8>> {
 
 /// Returns what is counted if the list is written in a form, or `None` if that fails.
 fn counted(alloc: Global, text: &[u8], form: &str) -> Option<Counter> {
-    let files = [("a", text)];
+    let mut files = Vec::new(alloc);
+    files.push(("a", text)).ok()?;
     let inputs = Held {
         alloc,
         files: &files,
