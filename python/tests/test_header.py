@@ -10,7 +10,7 @@ from range_set._calls import CALLS, WideCount, changed, exact
 HEADER = Path(__file__).resolve().parent.parent.parent / "include" / "range_set.h"
 NUMBERS = {"uint64_t": ctypes.c_uint64, "uint32_t": ctypes.c_uint32, "int32_t": ctypes.c_int32, "bool": ctypes.c_bool}
 NUMBERS["size_t"] = ctypes.c_size_t
-LEFT_OUT = {"insert", "remove", "is_disjoint_range", "from_runs", "runs_in"}  # other calls do the same
+LEFT_OUT = {"insert", "remove", "is_disjoint_range"}  # other calls do the same
 
 
 def c_type(text, calls):
