@@ -278,17 +278,13 @@ class Reads(IntSet):
 
     def gap_after(self, value: SupportsIndex) -> Optional[Run]:
         """Returns the first gap that starts after a value, or None."""
-        found, block = self._run_or_gap(value)
-        if not found and block.last < self._calls.greatest:
-            block = self._run_or_gap(block.last + 1)[1]
-        return None if block.last == self._calls.greatest else self.gap_of(block.last + 1)
+        run = self.next_run(value)
+        return None if run is None or run.last == self._calls.greatest else self.gap_of(run.last + 1)
 
     def gap_before(self, value: SupportsIndex) -> Optional[Run]:
         """Returns the last gap that ends before a value, or None."""
-        found, block = self._run_or_gap(value)
-        if not found and block.first > 0:
-            block = self._run_or_gap(block.first - 1)[1]
-        return None if block.first == 0 else self.gap_of(block.first - 1)
+        run = self.prev_run(value)
+        return None if run is None or run.first == 0 else self.gap_of(run.first - 1)
 
     def first_gap(self, length: SupportsIndex = 1, start: SupportsIndex = 0) -> Optional[Run]:
         """Returns the first gap with at least `length` values at or after `start`, or None.

@@ -32,7 +32,7 @@ class Header(unittest.TestCase):
     def test_each_call_is_declared_as_in_the_header(self):
         text = HEADER.read_text()
         for bits, calls in CALLS.items():
-            found = re.findall(rf"^(\w+) rsb_u{bits}_(\w+)\(([^)]*)\);", text, re.M)
+            found = re.findall(rf"^(?:RSB_NODISCARD )?(\w+) rsb_u{bits}_(\w+)\(([^)]*)\);", text, re.M)
             self.assertGreater(len(found), 30)
             declared = {name for name, _ in vars(calls).items() if isinstance(getattr(calls, name), ctypes._CFuncPtr)}
             self.assertEqual({name for _, name, _ in found} - declared, LEFT_OUT)
