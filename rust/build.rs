@@ -2,6 +2,8 @@
 
 use std::env;
 use std::ffi::OsString;
+use std::fs;
+use std::io;
 use std::path::{Path, PathBuf};
 use std::process::Command;
 
@@ -25,14 +27,32 @@ fn main() {
         "cargo:rerun-if-changed={}",
         folder.join(kind.file()).display()
     );
-    println!("cargo:rustc-link-search=native={}", folder.display());
     match kind {
-        Kind::Static => println!("cargo:rustc-link-lib=static=range_set"),
+        Kind::Static => {
+            println!("cargo:rustc-link-search=native={}", folder.display());
+            println!("cargo:rustc-link-lib=static=range_set");
+        }
         Kind::Shared => {
+            let copy = copied(&folder).expect("the shared library cannot be copied to OUT_DIR");
+            println!("cargo:rustc-link-search=native={}", copy.display());
             println!("cargo:rustc-link-lib=dylib=range_set");
-            println!("cargo:rustc-link-arg=-Wl,-rpath,{}", folder.display());
         }
     }
+}
+
+/// Copies the shared library, under each of its names, to the folder of this build, and returns that
+/// folder. `cargo run` and `cargo test` tell the loader of it, for this crate and for each crate
+/// that depends on it.
+fn copied(folder: &Path) -> io::Result<PathBuf> {
+    let out = PathBuf::from(env::var_os("OUT_DIR").unwrap());
+    for entry in fs::read_dir(folder)? {
+        let entry = entry?;
+        let name = entry.file_name();
+        if name.to_string_lossy().starts_with(Kind::Shared.file()) {
+            fs::copy(entry.path(), out.join(name))?;
+        }
+    }
+    Ok(out)
 }
 
 /// The two forms of the library.
