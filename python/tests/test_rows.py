@@ -33,6 +33,20 @@ class Members(unittest.TestCase):
             for source in ((), range(0), range(5, 1), Run(5, 1), [range(0)], [Run(1, 0)], [range(-5, -5)]):
                 self.assertFalse(kind(source, bits=bits))
 
+    def test_over_a_million_runs(self):
+        count = 1_000_003
+        values = [3 * (7919 * at % count) for at in range(count)]
+        for bits in GREATEST:
+            made = RangeSet(values, bits=bits)
+            self.assertEqual((len(made), len(made.runs()), made.last()), (count, count, 3 * count - 3))
+            made.remove(3 * 500_000)
+            self.assertTrue(made.add(3 * 500_000) and made.discard(0) and made.add(0, 1) and made.discard(range(1, 3)))
+            self.assertFalse(made - made or made ^ made)
+            self.assertEqual((made == RangeSet(values, bits=bits), len((~made).runs())), (True, count))
+            made.difference_update(values[:1000])
+            made &= RangeSet(range(3 * count), bits=bits)
+            self.assertEqual(len(made), count - 1000)
+
     def test_width_of_a_copy(self):
         narrow = RangeSet([GREATEST[32]], bits=32)
         self.assertEqual(RangeSet(narrow).bits, 32)
