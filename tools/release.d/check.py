@@ -1,0 +1,1 @@
+def release(out): pass
