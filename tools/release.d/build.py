@@ -8,12 +8,14 @@ The folder that it leaves is all that the packages are made from:
 """
 import os
 import re
-import shutil
 import subprocess
 import sys
+from pathlib import Path
 
 from common import PROGRAMS, ROOT, Failed, fresh, git, need, run, say
 
+START = Path(__file__).resolve().with_name("start.S")
+LINKING = ("-Wl,-z,relro,-z,now,-z,noexecstack", "-Wl,--gc-sections,--as-needed", "-Wl,--build-id=sha1")
 # Words by which the kit reports what it proved.
 VERDICT = re.compile(r"\bproved\b|nothing has changed since the last proved build")
 
@@ -43,12 +45,21 @@ def library(to):
     return last_verdict(said_by([str(ROOT / "tools" / "c" / "build"), str(to)], ROOT))
 
 
+def linked(name, to):
+    """Links a program from the code that the kit has just proved and compiled, so that it runs on old systems too.
+
+    The kit links with the newest glibc. Nothing but the start file (start.S) differs from what it links.
+    """
+    kit = Path(run("rt", "doc").strip()).parent
+    inputs = [START, ROOT / "crates" / name / "out" / f"{name}.o", kit / "c" / "libos_c.a", kit / "c" / "liblibc_c.a"]
+    run(os.environ.get("CC", "cc"), "-nostartfiles", "-pie", *LINKING, "-o", to, *inputs)
+
+
 def program(name, to):
     """Proves and builds a program, and returns what the kit said."""
-    crate = ROOT / "crates" / name
     arguments = ["--", "--version"] if name == "ip_lists" else []
-    said = said_by(["rt", "run", *arguments], crate)
-    shutil.copy2(crate / "out" / name, to / name)
+    said = said_by(["rt", "run", *arguments], ROOT / "crates" / name)
+    linked(name, to / name)
     return last_verdict(said)
 
 

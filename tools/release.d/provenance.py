@@ -27,7 +27,7 @@ def text(built, tree):
         "",
         "Proved are the functions of the C library and the two programs. docs/PROVED.md says what that means, and what",
         "is only tested. The headers' own functions, the C++ class, the Python package and the Rust crate are only tested.",
-        f"The shared library was linked by: {compiler}",
+        f"The shared library and the programs were linked by: {compiler}",
         "",
         "SHA-256, as in this archive:",
         *(f"  {archives.sum_of(path)}  {path.relative_to(tree)}" for path in files),
