@@ -1,16 +1,20 @@
 """Opens the site in headless Chromium, and looks at what it shows."""
 import functools
 import http.server
-import re
-import subprocess
-import tempfile
 import threading
 
-from staged import need
+from chromium import Chromium
 
-NARROW, WIDE = "390,844", "1280,900"
-# No name but that of this host has an address, so a request to another host is an error of the console.
-ALONE = "--host-resolver-rules=MAP * ~NOTFOUND, EXCLUDE 127.0.0.1"
+WIDE, NARROW = (1280, 900), (390, 844)
+# Each picture, the page, the size of the screen, and what has to be true once the page is there.
+VIEWS = (
+    ("first-page", "index.html", WIDE, "document.querySelector('h1') && document.body.innerText.includes('sorted ranges')"),
+    ("search", "index.html?q=ranges_remove", WIDE, "document.querySelector('.md-search-result a[href*=\"API.html\"]')"),
+    ("narrow", "docs/C.html", NARROW, "document.querySelector('h1') && document.body.scrollWidth <= innerWidth"),
+    ("python", "reference/python.html", WIDE, "document.body.innerText.includes('RangeSet.add')"),
+    ("c", "reference/c/range__set_8h.html", WIDE, "document.body.innerText.includes('rsb_u64_insert_range')"),
+    ("rust", "reference/rust/range_set/struct.RangeSet.html", WIDE, "document.body.innerText.includes('try_insert')"),
+)
 
 
 class Silent(http.server.SimpleHTTPRequestHandler):
@@ -27,36 +31,15 @@ def served(site):
     return server
 
 
-def opened(url, size, *words):
-    """Opens a page, and returns what Chromium prints, and the lines of the console that are errors."""
-    with tempfile.TemporaryDirectory() as profile:
-        ran = subprocess.run(
-            ["chromium", "--headless", "--no-sandbox", "--disable-gpu", f"--user-data-dir={profile}", f"--window-size={size}"]
-            + ["--enable-logging=stderr", "--v=0", "--virtual-time-budget=15000", ALONE, *words, url],
-            capture_output=True,
-            text=True,
-            timeout=180,
-        )
-    console = [line for line in ran.stderr.splitlines() if "CONSOLE" in line and re.search(r"error|Error|refused", line)]
-    return ran.stdout, console
-
-
-def shown(site, base, what, page, size, word):
-    """Opens a page, keeps a screenshot, and yields what is wrong: an error, or a word that is not there."""
-    text, console = opened(base + page, size, "--dump-dom")
-    yield from (f"{what}: {line}" for line in console)
-    if not re.search(word, text):
-        yield f"{what} does not show {word}"
-    opened(base + page, size, f"--screenshot={site}/{what.replace(' ', '-')}.png")
-
-
-def faults(site):
-    """Yields what is wrong with what the site shows."""
-    need("chromium", "chromium")
+def faults(site, pictures):
+    """Yields what is wrong with what the site shows, and leaves a picture of each view in a folder."""
+    pictures.mkdir(parents=True, exist_ok=True)
     server = served(site)
-    base = f"http://127.0.0.1:{server.server_address[1]}/"
-    yield from shown(site, base, "the first page", "index.html", WIDE, "Wooljasper keeps a set of integers")
-    result = r'class="md-search-result__link"[^>]*href="[^"]*API\.html|API\.html[^"]*"[^>]*class="md-search-result__link'
-    yield from shown(site, base, "a search", "index.html?q=ranges_remove", WIDE, result)
-    yield from shown(site, base, "a narrow screen", "docs/C.html", NARROW, "Use the sets from C")
+    with Chromium() as browser:
+        for name, page, size, expression in VIEWS:
+            browser.open(f"http://127.0.0.1:{server.server_address[1]}/{page}", *size)
+            if not browser.waits_for(f"document.readyState == 'complete' && {expression}"):
+                yield f"{name}: {page} does not show what it should"
+            browser.keep_picture(pictures / f"{name}.png")
+            yield from (f"{name}: {error}" for error in browser.errors)
     server.shutdown()
