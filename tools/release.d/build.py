@@ -17,13 +17,13 @@ from common import PROGRAMS, ROOT, Failed, fresh, git, need, run, say
 START = Path(__file__).resolve().with_name("start.S")
 LINKING = ("-Wl,-z,relro,-z,now,-z,noexecstack", "-Wl,--gc-sections,--as-needed", "-Wl,--build-id=sha1")
 # Words by which the kit reports what it proved.
-VERDICT = re.compile(r"\bproved\b|nothing has changed since the last proved build")
+VERDICT = re.compile(r"^logic=proved .*|.*nothing has changed since the last proved build.*", re.M)
 
 
 def last_verdict(said):
     """Returns the last line in which the kit says what it proved, or ends the release."""
-    lines = [line for line in said.splitlines() if VERDICT.search(line)]
-    if not lines or "proved=no" in lines[-1]:
+    lines = VERDICT.findall(said)
+    if not lines:
         raise Failed("the kit did not say that it proved the crate")
     return lines[-1].strip()
 

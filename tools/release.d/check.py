@@ -16,6 +16,7 @@ from roots import RELEASES, Root
 # Where the check unpacks the archive, and where it then moves it.
 UNPACKED, MOVED = "/srv/unpacked", "/srv/moved"
 INSTALL_LINE = "PKG_CONFIG_PATH=out/lib/pkgconfig "
+CARGO = "cargo -q run --offline"
 MISSING = "range_set_IS_MISSING__set_RANGE_SET_LIB_DIR"
 
 
@@ -130,6 +131,10 @@ def try_packages(trial, out):
     try_python(trial, where, "python3")
     try_lists(trial, where)
     completed = "COMP_WORDS=(ip_lists co); COMP_CWORD=1; _ip_lists; echo ${COMPREPLY[*]}"
+    if "rustc" in RELEASES[root.release]:
+        trial.prints(f"Rust, {where}", CARGO, pages.EXAMPLES["ranges.rs"], folder="/srv/app")
+    page = "zcat /usr/share/man/man1/ip_lists.1.gz | head -n 1 | cut -d ' ' -f 1-3"
+    trial.prints("the man page is there", page, ".TH IP_LISTS 1\n")
     load = f". /usr/share/bash-completion/completions/ip_lists; {completed}"
     trial.prints("bash completes an operation", f"bash -c '{load}'", "common complement count\n")
     trial.prints("dpkg removes the packages", f"dpkg -P {' '.join(reversed(debian.PACKAGES))}", None)
@@ -145,12 +150,11 @@ def try_crate(trial, out):
     root.write("/srv/app/Cargo.toml", manifest)
     root.put(ROOT / "examples" / "ranges.rs", "/srv/app/src/main.rs")
     trial.prints("the crate is unpacked", "tar -xf crate.tar.gz", "")
-    cargo, wanted = "cargo -q run --offline", pages.EXAMPLES["ranges.rs"]
-    here = {"folder": "/srv/app"}
+    wanted, here = pages.EXAMPLES["ranges.rs"], {"folder": "/srv/app"}
     trial.prints("cargo check without the library", "cargo check --offline", None, **here)
-    trial.refuses("cargo run without the library says what is missing", cargo, MISSING, **here)
-    trial.prints("Rust over RANGE_SET_LIB_DIR", cargo, wanted, RANGE_SET_LIB_DIR=f"{MOVED}/lib", **here)
-    trial.prints("Rust over pkg-config", cargo, wanted, PKG_CONFIG_PATH=f"{MOVED}/lib/pkgconfig", **here)
+    trial.refuses("cargo run without the library says what is missing", CARGO, MISSING, **here)
+    trial.prints("Rust over RANGE_SET_LIB_DIR", CARGO, wanted, RANGE_SET_LIB_DIR=f"{MOVED}/lib", **here)
+    trial.prints("Rust over pkg-config", CARGO, wanted, PKG_CONFIG_PATH=f"{MOVED}/lib/pkgconfig", **here)
 
 
 def try_release(release, out):

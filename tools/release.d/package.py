@@ -1,6 +1,7 @@
 """Makes all files of a release from what build.py leaves."""
 import shutil
 import subprocess
+import sys
 import tempfile
 from pathlib import Path
 
@@ -11,7 +12,7 @@ import layout
 import provenance
 import python_package
 import rust_crate
-from common import ARCHIVE, PROGRAMS, ROOT, SOURCE, Failed, fresh, say
+from common import ARCHIVE, PROGRAMS, ROOT, SOURCE, Failed, fresh, run, say
 
 
 def check_binaries(tree):
@@ -46,6 +47,7 @@ def release(built, out):
         check_binaries(tree)
         (tree / "PROVENANCE.txt").write_text(provenance.text(built, tree))
         shutil.copy(tree / "PROVENANCE.txt", out)
+        run(sys.executable, ROOT / "tools" / "site", tree / "doc")
         archives.write_tar(out / f"{ARCHIVE}.tar.gz", tree, ARCHIVE)
         source_archive(out)
         python_package.wheel(tree, out)

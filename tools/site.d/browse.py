@@ -11,7 +11,7 @@ VIEWS = (
     ("first-page", "index.html", WIDE, "document.querySelector('h1') && document.body.innerText.includes('sorted ranges')"),
     ("search", "index.html?q=ranges_remove", WIDE, "document.querySelector('.md-search-result a[href*=\"API.html\"]')"),
     ("narrow", "docs/C.html", NARROW, "document.querySelector('h1') && document.body.scrollWidth <= innerWidth"),
-    ("python", "reference/python.html", WIDE, "document.body.innerText.includes('RangeSet.add')"),
+    ("python", "reference/python.html", WIDE, "document.body.innerText.includes('symmetric_difference_update')"),
     ("c", "reference/c/range__set_8h.html", WIDE, "document.body.innerText.includes('rsb_u64_insert_range')"),
     ("rust", "reference/rust/range_set/struct.RangeSet.html", WIDE, "document.body.innerText.includes('try_insert')"),
 )

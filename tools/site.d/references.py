@@ -26,8 +26,17 @@ HAVE_DOT = NO
 QUIET = YES
 WARNINGS = NO
 WARN_IF_UNDOCUMENTED = NO
-INPUT_FILTER = "sed -e 's|^\\( *\\)/\\* |\\1/** |; s|^\\( *\\)// |\\1/// |; s|^\\( *\\)//$|\\1///|'"
+INPUT_FILTER = "sed -e '{filter}'"
 """
+# Gives comments the form that doxygen reads. The first one of a file is about the file.
+FILTER = (
+    r"1s|^/\* |/** @file\n * |",
+    r"1s|^// |/// @file\n/// |",
+    r"s|^\( *\)/\* \(---- \)*|\1/** |",
+    r"s|^\( *\)//\( .*\)*$|\1///\2|",
+)
+# Under which title the methods of a class are that users do not name.
+TITLES = {"Algebra": "Both kinds: operators and comparisons", "Reads": "Both kinds: reads"}
 
 
 def called(words, **how):
@@ -38,9 +47,9 @@ def called(words, **how):
 
 
 def c(room, to):
-    """Has doxygen read the headers. Their comments get the second star that it looks for."""
+    """Has doxygen read the headers."""
     need("doxygen", "doxygen")
-    (room / "Doxyfile").write_text(DOXYGEN.format(include=ROOT / "include", room=room))
+    (room / "Doxyfile").write_text(DOXYGEN.format(include=ROOT / "include", room=room, filter="; ".join(FILTER)))
     called(["doxygen", str(room / "Doxyfile")])
     shutil.copytree(room / "c", to)
 
@@ -72,13 +81,13 @@ def indented_code(text):
 
 def of_class(item):
     """Yields the parts of a page about a class: its docstring, and its documented methods."""
-    yield f"## {item.name}"
+    yield f"## {TITLES.get(item.name, item.name)}"
     yield indented_code(ast.get_docstring(item) or "")
     for method in item.body:
         is_method = isinstance(method, ast.FunctionDef) and is_public(method)
         told = ast.get_docstring(method) if is_method else None
         if told:
-            yield f"### {item.name}.{method.name}"
+            yield f"### `{method.name}`"
             yield f"```python\n{signature(method)}\n```"
             yield indented_code(told)
 
