@@ -85,7 +85,7 @@ def development_files(tree, room):
 
 def python_files(tree, room):
     """Copies the Python package, without a library inside."""
-    made = python_package.called("build_wheel", room.parent, "/dev/null")
+    made = python_package.called("build_wheel", room.parent, tree / "lib" / layout.SHARED)
     with zipfile.ZipFile(made) as archive:
         for name in archive.namelist():
             if name.startswith("range_set/") and not name.endswith(".so"):

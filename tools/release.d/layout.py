@@ -33,8 +33,9 @@ def libraries(built, to):
 def pkg_config(prefix, libdir, library_path):
     """Returns the file for pkg-config. `library_path` says whether a program gets the path of the library."""
     text = (TEMPLATES / "range_set.pc").read_text()
-    text = text.replace("# Written by tools/c/build.\n", "").replace("@PREFIX@", prefix).replace("@VERSION@", VERSION)
-    text = re.sub(r"^libdir=.*$", f"libdir={libdir}", text, flags=re.M)
+    text = re.sub(r"^# Written by.*\n", "", text).replace("@VERSION@", VERSION)
+    for name, value in {"prefix": prefix, "libdir": libdir}.items():
+        text = re.sub(rf"^{name}=.*$", lambda _: f"{name}={value}", text, flags=re.M)
     return text if library_path else text.replace(" -Wl,-rpath,${libdir}", "")
 
 
@@ -42,7 +43,7 @@ def cmake_files(libdir):
     """Yields the name and the text of each file for CMake. `libdir` is the folder of libraries below the prefix."""
     ups = "/".join([".."] * (len(libdir.split("/")) + 2))
     for name in ("range_setConfig.cmake", "range_setConfigVersion.cmake"):
-        text = (TEMPLATES / name).read_text().replace("Written by tools/c/build. ", "")
+        text = re.sub(r"^# Written by tools/c/build\. ", "# ", (TEMPLATES / name).read_text())
         text = text.replace("@VERSION@", VERSION).replace("@COMPATIBLE@", compatible())
         text = text.replace("${CMAKE_CURRENT_LIST_DIR}/../../..", "${CMAKE_CURRENT_LIST_DIR}/" + ups)
         yield name, text.replace("prefix}/lib/", "prefix}/" + libdir + "/")
