@@ -1,4 +1,5 @@
 """What all parts of tools/release share: the version, the time, and how they run other programs."""
+import functools
 import os
 import shutil
 import subprocess
@@ -64,6 +65,7 @@ def compatible():
     return f"0.{minor}" if major == "0" else major
 
 
+@functools.lru_cache(maxsize=None)
 def release_time():
     """Returns the time of each file of the release, in seconds: SOURCE_DATE_EPOCH, or the time of the commit."""
     named = os.environ.get("SOURCE_DATE_EPOCH")
