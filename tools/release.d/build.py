@@ -66,7 +66,7 @@ def program(name, to):
 def all_of_it(to):
     """Proves and builds the library and the programs, and returns the folder that has them."""
     need("rt", "strip")
-    if git("status", "--porcelain") and not os.environ.get("STANDIN"):
+    if git("status", "--porcelain"):
         raise Failed("the working tree has changes: commit them, since a release is of a commit")
     fresh(to)
     (to / "bin").mkdir()
