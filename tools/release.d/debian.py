@@ -1,4 +1,4 @@
-"""Makes the Debian packages, and has lintian read them."""
+"""Makes the Debian packages (docs/DECISIONS.md, binary-packages), and has lintian read them."""
 import email.utils
 
 import os

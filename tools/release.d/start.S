@@ -1,4 +1,4 @@
-# Where a program begins, as in glibc's own start file, except that it calls the oldest version of __libc_start_main. A newer
+# Where a program begins (docs/DECISIONS.md, own-start-file), as in glibc's own start file, except that it calls the oldest version of __libc_start_main. A newer
 # glibc still has that version, so the program runs on old and new systems. It has no constructors that it would have to run.
         .symver __libc_start_main, __libc_start_main@GLIBC_2.2.5
         .text
