@@ -9,7 +9,7 @@
 
 static std::jmp_buf before_the_call;
 
-static void aborted(int) {
+[[noreturn]] static void aborted(int) {
     std::longjmp(before_the_call, 1);
 }
 
