@@ -66,6 +66,19 @@ enum {
 #define RSB_INLINE static inline
 #endif
 
+/* A compiler warns if a program ignores what these calls return, since that may be RSB_NO_MEMORY.
+   Define RSB_NODISCARD as nothing before the header if you do not want that. Note that RSB_NO_MEMORY
+   is not 0: `if (rsb_u64_insert(&set, 5))` is also true if the insertion failed. */
+#ifndef RSB_NODISCARD
+#if defined(__cplusplus) && __cplusplus >= 201703L
+#define RSB_NODISCARD [[nodiscard]]
+#elif defined(__GNUC__)
+#define RSB_NODISCARD __attribute__((warn_unused_result))
+#else
+#define RSB_NODISCARD
+#endif
+#endif
+
 /* ---- Sets of uint64_t. */
 
 typedef struct rsb_u64 {
@@ -88,35 +101,35 @@ typedef struct rsb_u64_count {
 /* Adds the values from first to last, both included, or none if last is below first. Returns
    RSB_UNCHANGED if there is nothing to add. Does not allocate if there is nothing to add, or if
    first or the value before it is a member. */
-uint32_t rsb_u64_insert_range(rsb_u64 *set, uint64_t first, uint64_t last);
+RSB_NODISCARD uint32_t rsb_u64_insert_range(rsb_u64 *set, uint64_t first, uint64_t last);
 
 /* Adds a value. Returns RSB_UNCHANGED, and does not allocate, if it was already a member. */
-uint32_t rsb_u64_insert(rsb_u64 *set, uint64_t value);
+RSB_NODISCARD uint32_t rsb_u64_insert(rsb_u64 *set, uint64_t value);
 
 /* Removes a value, which may need an allocation. Returns RSB_UNCHANGED, and does not allocate, if
    the value was not a member. */
-uint32_t rsb_u64_remove(rsb_u64 *set, uint64_t value);
+RSB_NODISCARD uint32_t rsb_u64_remove(rsb_u64 *set, uint64_t value);
 
 /* Removes the values from first to last, both included, or none if last is below first. Returns
    RSB_UNCHANGED, and does not allocate, if none of them was a member. Does not allocate either if
    the value after last is not a member or does not exist. */
-uint32_t rsb_u64_remove_range(rsb_u64 *set, uint64_t first, uint64_t last);
+RSB_NODISCARD uint32_t rsb_u64_remove_range(rsb_u64 *set, uint64_t first, uint64_t last);
 
 /* Adds all members of another set, or none of them if an allocation fails. Returns RSB_UNCHANGED,
    and does not allocate, if all of them were already members. */
-uint32_t rsb_u64_union_with(rsb_u64 *set, const rsb_u64 *other);
+RSB_NODISCARD uint32_t rsb_u64_union_with(rsb_u64 *set, const rsb_u64 *other);
 
 /* Removes the members that another set does not have. Returns RSB_UNCHANGED, and does not allocate,
    if it has all of them. Does not allocate either if the other set is empty. */
-uint32_t rsb_u64_intersect_with(rsb_u64 *set, const rsb_u64 *other);
+RSB_NODISCARD uint32_t rsb_u64_intersect_with(rsb_u64 *set, const rsb_u64 *other);
 
 /* Removes all members of another set. Returns RSB_UNCHANGED, and does not allocate, if none of them
    was a member. */
-uint32_t rsb_u64_subtract(rsb_u64 *set, const rsb_u64 *other);
+RSB_NODISCARD uint32_t rsb_u64_subtract(rsb_u64 *set, const rsb_u64 *other);
 
 /* Removes the members that another set has too, and adds the members that only the other set has.
    Returns RSB_UNCHANGED, and does not allocate, if the other set is empty. */
-uint32_t rsb_u64_xor_with(rsb_u64 *set, const rsb_u64 *other);
+RSB_NODISCARD uint32_t rsb_u64_xor_with(rsb_u64 *set, const rsb_u64 *other);
 
 /* Removes all members, but keeps a block of memory for later ones. rsb_u64_free frees that too. */
 void rsb_u64_clear(rsb_u64 *set);
@@ -212,32 +225,33 @@ bool rsb_u64_first_gap(const rsb_u64 *set, uint64_t from, uint64_t len, rsb_u64_
 /* Set `out` to the union, the intersection, the difference (left without right) or the symmetric
    difference of two sets, to the complement of a set, or to a copy of it. Return RSB_CHANGED and
    free what `out` held before, or return RSB_NO_MEMORY and leave `out` unchanged. */
-uint32_t rsb_u64_union(rsb_u64 *out, const rsb_u64 *left, const rsb_u64 *right);
-uint32_t rsb_u64_intersection(rsb_u64 *out, const rsb_u64 *left, const rsb_u64 *right);
-uint32_t rsb_u64_difference(rsb_u64 *out, const rsb_u64 *left, const rsb_u64 *right);
-uint32_t rsb_u64_symmetric_difference(rsb_u64 *out, const rsb_u64 *left, const rsb_u64 *right);
-uint32_t rsb_u64_complement(rsb_u64 *out, const rsb_u64 *set);
-uint32_t rsb_u64_clone(rsb_u64 *out, const rsb_u64 *set);
+RSB_NODISCARD uint32_t rsb_u64_union(rsb_u64 *out, const rsb_u64 *left, const rsb_u64 *right);
+RSB_NODISCARD uint32_t rsb_u64_intersection(rsb_u64 *out, const rsb_u64 *left, const rsb_u64 *right);
+RSB_NODISCARD uint32_t rsb_u64_difference(rsb_u64 *out, const rsb_u64 *left, const rsb_u64 *right);
+RSB_NODISCARD uint32_t rsb_u64_symmetric_difference(rsb_u64 *out, const rsb_u64 *left, const rsb_u64 *right);
+RSB_NODISCARD uint32_t rsb_u64_complement(rsb_u64 *out, const rsb_u64 *set);
+RSB_NODISCARD uint32_t rsb_u64_clone(rsb_u64 *out, const rsb_u64 *set);
 
 /* Sets `out` to the values of `count` runs, which may come in any order, overlap and touch. A run
    whose last value is below its first one has no values. Returns RSB_CHANGED, or returns
    RSB_NO_MEMORY and leaves `out` unchanged. Does not allocate if `count` is 0. */
-uint32_t rsb_u64_from_runs(rsb_u64 *out, const rsb_u64_run *runs, size_t count);
+RSB_NODISCARD uint32_t rsb_u64_from_runs(rsb_u64 *out, const rsb_u64_run *runs, size_t count);
 
 /* Sets `out` to the values of the ranges that `text` lists, such as 1..=5, 10..=20. The ranges may
    come in any order, and 7 means 7..=7. Blanks may be around each number. Empty text gives the
    empty set. The text needs no zero byte at its end.
-   Returns RSB_CHANGED. Returns RSB_BAD_TEXT if the text does not list ranges of uint64_t, or
-   RSB_NO_MEMORY if an allocation fails; `out` is then unchanged. Does not allocate if `length` is
-   0. */
-uint32_t rsb_u64_from_text(rsb_u64 *out, const char *text, size_t length);
+   Returns RSB_CHANGED, or leaves `out` unchanged and returns RSB_BAD_TEXT or RSB_NO_MEMORY. It
+   returns RSB_BAD_TEXT only if the text does not list ranges of uint64_t, and RSB_NO_MEMORY only if
+   an allocation failed. The call does without some blocks, and so may succeed after a failed
+   allocation. Does not allocate if `length` is 0. */
+RSB_NODISCARD uint32_t rsb_u64_from_text(rsb_u64 *out, const char *text, size_t length);
 
 /* Writes the text of a set, such as 1..=5, 10..=20, to the start of `buffer`, with no zero byte at
    its end. rsb_u64_from_text reads it as the same set. Stores the length of the text in `length`,
    also if the text is longer than `capacity`: then returns RSB_NO_ROOM, and `buffer` is unchanged.
    Otherwise returns RSB_CHANGED. If an allocation fails, returns RSB_NO_MEMORY, and `buffer` and
    `length` are unchanged. Does not allocate if the set is empty. */
-uint32_t rsb_u64_to_text(const rsb_u64 *set, char *buffer, size_t capacity, size_t *length);
+RSB_NODISCARD uint32_t rsb_u64_to_text(const rsb_u64 *set, char *buffer, size_t capacity, size_t *length);
 
 /* Returns whether two sets have the same members. */
 bool rsb_u64_equal(const rsb_u64 *left, const rsb_u64 *right);
@@ -262,22 +276,23 @@ typedef struct rsb_u64_sets {
 
 /* Adds a copy of a set at the end of a list. Returns RSB_CHANGED, or returns RSB_NO_MEMORY and
    leaves the list unchanged. */
-uint32_t rsb_u64_sets_add(rsb_u64_sets *list, const rsb_u64 *set);
+RSB_NODISCARD uint32_t rsb_u64_sets_add(rsb_u64_sets *list, const rsb_u64 *set);
 
 /* Set `out` to the values in at least one of the sets of a list, in all of them, in an odd number
    of them, or in at least k of them. In an empty list, no value is in a set, and every value is in
    all of them. A set that was added twice counts twice. Return RSB_CHANGED and free what `out` held
    before, or return RSB_NO_MEMORY and leave `out` unchanged. */
-uint32_t rsb_u64_sets_union(rsb_u64 *out, const rsb_u64_sets *list);
-uint32_t rsb_u64_sets_intersection(rsb_u64 *out, const rsb_u64_sets *list);
-uint32_t rsb_u64_sets_symmetric_difference(rsb_u64 *out, const rsb_u64_sets *list);
-uint32_t rsb_u64_sets_at_least(rsb_u64 *out, const rsb_u64_sets *list, size_t k);
+RSB_NODISCARD uint32_t rsb_u64_sets_union(rsb_u64 *out, const rsb_u64_sets *list);
+RSB_NODISCARD uint32_t rsb_u64_sets_intersection(rsb_u64 *out, const rsb_u64_sets *list);
+RSB_NODISCARD uint32_t rsb_u64_sets_symmetric_difference(rsb_u64 *out, const rsb_u64_sets *list);
+RSB_NODISCARD uint32_t rsb_u64_sets_at_least(rsb_u64 *out, const rsb_u64_sets *list, size_t k);
 
 /* Frees all memory of the list, which is then empty. */
 void rsb_u64_sets_free(rsb_u64_sets *list);
 
 #include "range_set/u64_many.h"
 #include "range_set/u64_same.h"
+#include "range_set/u64_walk.h"
 
 /* ---- Sets of uint32_t: the same calls. A number of values is a plain uint64_t, and the greatest
    value is UINT32_MAX. */
@@ -290,14 +305,14 @@ typedef struct rsb_u32_run {
     uint32_t first;
     uint32_t last;
 } rsb_u32_run;
-uint32_t rsb_u32_insert_range(rsb_u32 *set, uint32_t first, uint32_t last);
-uint32_t rsb_u32_insert(rsb_u32 *set, uint32_t value);
-uint32_t rsb_u32_remove(rsb_u32 *set, uint32_t value);
-uint32_t rsb_u32_remove_range(rsb_u32 *set, uint32_t first, uint32_t last);
-uint32_t rsb_u32_union_with(rsb_u32 *set, const rsb_u32 *other);
-uint32_t rsb_u32_intersect_with(rsb_u32 *set, const rsb_u32 *other);
-uint32_t rsb_u32_subtract(rsb_u32 *set, const rsb_u32 *other);
-uint32_t rsb_u32_xor_with(rsb_u32 *set, const rsb_u32 *other);
+RSB_NODISCARD uint32_t rsb_u32_insert_range(rsb_u32 *set, uint32_t first, uint32_t last);
+RSB_NODISCARD uint32_t rsb_u32_insert(rsb_u32 *set, uint32_t value);
+RSB_NODISCARD uint32_t rsb_u32_remove(rsb_u32 *set, uint32_t value);
+RSB_NODISCARD uint32_t rsb_u32_remove_range(rsb_u32 *set, uint32_t first, uint32_t last);
+RSB_NODISCARD uint32_t rsb_u32_union_with(rsb_u32 *set, const rsb_u32 *other);
+RSB_NODISCARD uint32_t rsb_u32_intersect_with(rsb_u32 *set, const rsb_u32 *other);
+RSB_NODISCARD uint32_t rsb_u32_subtract(rsb_u32 *set, const rsb_u32 *other);
+RSB_NODISCARD uint32_t rsb_u32_xor_with(rsb_u32 *set, const rsb_u32 *other);
 void rsb_u32_clear(rsb_u32 *set);
 void rsb_u32_free(rsb_u32 *set);
 bool rsb_u32_contains(const rsb_u32 *set, uint32_t value);
@@ -317,15 +332,15 @@ bool rsb_u32_run_after(const rsb_u32 *set, uint32_t value, rsb_u32_run *run);
 bool rsb_u32_run_before(const rsb_u32 *set, uint32_t value, rsb_u32_run *run);
 size_t rsb_u32_runs_in(const rsb_u32 *set, uint32_t first, uint32_t last, rsb_u32_run *runs, size_t count);
 bool rsb_u32_first_gap(const rsb_u32 *set, uint32_t from, uint64_t len, rsb_u32_run *gap);
-uint32_t rsb_u32_union(rsb_u32 *out, const rsb_u32 *left, const rsb_u32 *right);
-uint32_t rsb_u32_intersection(rsb_u32 *out, const rsb_u32 *left, const rsb_u32 *right);
-uint32_t rsb_u32_difference(rsb_u32 *out, const rsb_u32 *left, const rsb_u32 *right);
-uint32_t rsb_u32_symmetric_difference(rsb_u32 *out, const rsb_u32 *left, const rsb_u32 *right);
-uint32_t rsb_u32_complement(rsb_u32 *out, const rsb_u32 *set);
-uint32_t rsb_u32_clone(rsb_u32 *out, const rsb_u32 *set);
-uint32_t rsb_u32_from_runs(rsb_u32 *out, const rsb_u32_run *runs, size_t count);
-uint32_t rsb_u32_from_text(rsb_u32 *out, const char *text, size_t length);
-uint32_t rsb_u32_to_text(const rsb_u32 *set, char *buffer, size_t capacity, size_t *length);
+RSB_NODISCARD uint32_t rsb_u32_union(rsb_u32 *out, const rsb_u32 *left, const rsb_u32 *right);
+RSB_NODISCARD uint32_t rsb_u32_intersection(rsb_u32 *out, const rsb_u32 *left, const rsb_u32 *right);
+RSB_NODISCARD uint32_t rsb_u32_difference(rsb_u32 *out, const rsb_u32 *left, const rsb_u32 *right);
+RSB_NODISCARD uint32_t rsb_u32_symmetric_difference(rsb_u32 *out, const rsb_u32 *left, const rsb_u32 *right);
+RSB_NODISCARD uint32_t rsb_u32_complement(rsb_u32 *out, const rsb_u32 *set);
+RSB_NODISCARD uint32_t rsb_u32_clone(rsb_u32 *out, const rsb_u32 *set);
+RSB_NODISCARD uint32_t rsb_u32_from_runs(rsb_u32 *out, const rsb_u32_run *runs, size_t count);
+RSB_NODISCARD uint32_t rsb_u32_from_text(rsb_u32 *out, const char *text, size_t length);
+RSB_NODISCARD uint32_t rsb_u32_to_text(const rsb_u32 *set, char *buffer, size_t capacity, size_t *length);
 bool rsb_u32_equal(const rsb_u32 *left, const rsb_u32 *right);
 int32_t rsb_u32_order(const rsb_u32 *left, const rsb_u32 *right);
 bool rsb_u32_is_subset(const rsb_u32 *left, const rsb_u32 *right);
@@ -334,15 +349,16 @@ bool rsb_u32_is_disjoint(const rsb_u32 *left, const rsb_u32 *right);
 typedef struct rsb_u32_sets {
     void *rsb_private;
 } rsb_u32_sets;
-uint32_t rsb_u32_sets_add(rsb_u32_sets *list, const rsb_u32 *set);
-uint32_t rsb_u32_sets_union(rsb_u32 *out, const rsb_u32_sets *list);
-uint32_t rsb_u32_sets_intersection(rsb_u32 *out, const rsb_u32_sets *list);
-uint32_t rsb_u32_sets_symmetric_difference(rsb_u32 *out, const rsb_u32_sets *list);
-uint32_t rsb_u32_sets_at_least(rsb_u32 *out, const rsb_u32_sets *list, size_t k);
+RSB_NODISCARD uint32_t rsb_u32_sets_add(rsb_u32_sets *list, const rsb_u32 *set);
+RSB_NODISCARD uint32_t rsb_u32_sets_union(rsb_u32 *out, const rsb_u32_sets *list);
+RSB_NODISCARD uint32_t rsb_u32_sets_intersection(rsb_u32 *out, const rsb_u32_sets *list);
+RSB_NODISCARD uint32_t rsb_u32_sets_symmetric_difference(rsb_u32 *out, const rsb_u32_sets *list);
+RSB_NODISCARD uint32_t rsb_u32_sets_at_least(rsb_u32 *out, const rsb_u32_sets *list, size_t k);
 void rsb_u32_sets_free(rsb_u32_sets *list);
 
 #include "range_set/u32_many.h"
 #include "range_set/u32_same.h"
+#include "range_set/u32_walk.h"
 
 #ifdef __cplusplus
 }

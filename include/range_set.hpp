@@ -13,10 +13,13 @@
 // `auto b = a.clone();` or `range_set::u64_set b(range_set::clone, a);`.
 //
 // Arguments: a value, or a number of values, may have any standard integer type. If it is negative or
-// too great, the call throws std::out_of_range and leaves each set unchanged. These types are refused at
-// compile time: bool, character types, floating-point types and enums. signed char and unsigned char are
-// allowed, since std::int8_t and std::uint8_t are these types. A call that reads a set is noexcept if its
-// argument types rule out such a value. Only size() is not.
+// too great, the call throws std::out_of_range and leaves each set unchanged. contains and is_disjoint do
+// not: such a value is no member. These types are refused at compile time: bool, character types,
+// floating-point types and enums. signed char and unsigned char are allowed, since std::int8_t and
+// std::uint8_t are these types. A call that reads a set is noexcept if its argument types rule out such a
+// value. Only size() is not.
+//
+// Without exceptions, as with -fno-exceptions, a call that would throw calls std::abort.
 //
 // Runs: first and last, as two arguments or as `{first, last}`, mean all values between them, both
 // included. If last is below first, they mean no value. A range_set::run or a std::pair means the same.
@@ -75,7 +78,15 @@ public:
     ~set() { c::free(&handle_); }
 
     // The members of the runs, which may overlap and come in any order: `a{{1, 5}, {10, 20}}`.
-    set(std::initializer_list<run> runs) : set(runs.begin(), runs.end()) {}
+    set(std::initializer_list<run> runs) : set(from_runs(runs.begin(), runs.size())) {}
+
+    // The members of the runs of an array, by one call of the C library.
+    template <class Count> static set from_runs(const run *runs, Count count) {
+        static_assert(sizeof(run) == sizeof(typename c::run), "the C library reads an array of runs");
+        set out;
+        changed(c::from_runs(&out.handle_, runs, detail::number_of<std::size_t>(count)));
+        return out;
+    }
 
     // The members of one run.
     explicit set(const run &members) : set() { insert(members); }
@@ -241,6 +252,10 @@ public:
     detail::view<run_walk> runs() const & noexcept { return detail::view<run_walk>(handle_); }
     void runs() const && = delete; // the temporary set would end before its view does: give it a name first
 
+    // The same as runs().
+    detail::view<run_walk> ranges() const & noexcept { return runs(); }
+    void ranges() const && = delete; // the temporary set would end before its view does: give it a name first
+
     // A view of the gaps, which are the runs of the complement.
     detail::view<gap_walk> gaps() const & noexcept { return detail::view<gap_walk>(handle_); }
     void gaps() const && = delete; // the temporary set would end before its view does: give it a name first
@@ -259,19 +274,26 @@ public:
     // ---- Ask about values.
 
     // Whether the value, or each value of the run, is a member.
-    template <class Value, class = detail::if_values<Value>> bool contains(Value value) const noexcept(fits<Value>) {
-        return c::contains(&handle_, number(value));
+    template <class Value, class = detail::if_values<Value>> bool contains(Value value) const noexcept {
+        return detail::fits<Number>(value) && c::contains(&handle_, static_cast<Number>(value));
     }
 
-    template <class First, class Last> bool contains(First first, Last last) const noexcept(fits<First, Last>) {
-        return contains(run(first, last));
+    template <class First, class Last> bool contains(First first, Last last) const noexcept {
+        if (detail::fits<Number>(first) && detail::fits<Number>(last)) {
+            return c::contains_range(&handle_, static_cast<Number>(first), static_cast<Number>(last));
+        }
+        return is_reversed(first, last);
     }
 
     bool contains(const run &values) const noexcept { return c::contains_range(&handle_, values.first, values.last); }
 
     // Whether no value of the run is a member.
-    template <class First, class Last> bool is_disjoint(First first, Last last) const noexcept(fits<First, Last>) {
-        return is_disjoint(run(first, last));
+    template <class First, class Last> bool is_disjoint(First first, Last last) const noexcept {
+        if (is_reversed(first, last) || detail::is_above<Number>(first) || detail::is_below<Number>(last)) {
+            return true;
+        }
+        return c::is_disjoint_range(&handle_, detail::is_below<Number>(first) ? Number{0} : static_cast<Number>(first),
+                                    detail::is_above<Number>(last) ? detail::greatest<Number> : static_cast<Number>(last));
     }
 
     bool is_disjoint(const run &values) const noexcept { return c::is_disjoint_range(&handle_, values.first, values.last); }
@@ -290,6 +312,7 @@ public:
     // ---- Count.
 
     bool empty() const noexcept { return run_count() == 0; }
+    bool is_empty() const noexcept { return run_count() == 0; } // the same, under the name of range_set.h
     std::size_t run_count() const noexcept { return c::run_count(&handle_); }
 
     // The number of members, not of runs. Throws std::overflow_error if it is 2^64.
@@ -341,6 +364,28 @@ public:
 
     template <class Value> std::optional<run> run_before(Value value) const noexcept(fits<Value>) {
         return found(c::run_before, number(value));
+    }
+
+    // The run with the least members, and the run with the greatest members.
+    std::optional<run> first_run() const noexcept { return found(c::next_run, 0); }
+    std::optional<run> last_run() const noexcept { return found(c::prev_run, detail::greatest<Number>); }
+
+    // The gap that contains the value, or otherwise the first gap after it or the last gap before it.
+    template <class Value> std::optional<run> next_gap(Value from) const noexcept(fits<Value>) {
+        return found(c::next_gap, number(from));
+    }
+
+    template <class Value> std::optional<run> prev_gap(Value from) const noexcept(fits<Value>) {
+        return found(c::prev_gap, number(from));
+    }
+
+    // The first gap that starts after the value, or the last gap that ends before it.
+    template <class Value> std::optional<run> gap_after(Value value) const noexcept(fits<Value>) {
+        return found(c::gap_after, number(value));
+    }
+
+    template <class Value> std::optional<run> gap_before(Value value) const noexcept(fits<Value>) {
+        return found(c::gap_before, number(value));
     }
 
     // Stores the runs of the members between the ends of `within` in an array, in ascending order, until
@@ -407,9 +452,20 @@ private:
     static std::uint64_t low(rsb_u64_count members) noexcept { return members.low; }
     static std::uint64_t low(std::uint64_t members) noexcept { return members; }
 
+    // Whether the last value is below the first one.
+    template <class First, class Last> static constexpr bool is_reversed(First first, Last last) noexcept {
+        if (detail::is_below<Number>(first) && detail::is_below<Number>(last)) {
+            return static_cast<long long>(last) < static_cast<long long>(first);
+        }
+        if (detail::is_below<Number>(first) || detail::is_below<Number>(last)) {
+            return detail::is_below<Number>(last);
+        }
+        return static_cast<unsigned long long>(last) < static_cast<unsigned long long>(first);
+    }
+
     static bool changed(std::uint32_t answer) {
         if (answer == RSB_NO_MEMORY) {
-            throw std::bad_alloc();
+            RANGE_SET_THROW(std::bad_alloc());
         }
         return answer == RSB_CHANGED;
     }

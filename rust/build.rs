@@ -2,6 +2,8 @@
 
 use std::env;
 use std::ffi::OsString;
+use std::fs;
+use std::io;
 use std::path::{Path, PathBuf};
 use std::process::Command;
 
@@ -19,20 +21,40 @@ fn main() {
     for name in VARIABLES {
         println!("cargo:rerun-if-env-changed={name}");
     }
-    let folder = folder();
+    let Some(folder) = folder() else {
+        return without_library();
+    };
     let kind = kind(&folder);
     println!(
         "cargo:rerun-if-changed={}",
         folder.join(kind.file()).display()
     );
-    println!("cargo:rustc-link-search=native={}", folder.display());
     match kind {
-        Kind::Static => println!("cargo:rustc-link-lib=static=range_set"),
+        Kind::Static => {
+            println!("cargo:rustc-link-search=native={}", folder.display());
+            println!("cargo:rustc-link-lib=static=range_set");
+        }
         Kind::Shared => {
+            let copy = copied(&folder).expect("the shared library cannot be copied to OUT_DIR");
+            println!("cargo:rustc-link-search=native={}", copy.display());
             println!("cargo:rustc-link-lib=dylib=range_set");
-            println!("cargo:rustc-link-arg=-Wl,-rpath,{}", folder.display());
         }
     }
+}
+
+/// Copies the shared library, under each of its names, to the folder of this build, and returns that
+/// folder. `cargo run` and `cargo test` tell the loader of it, for this crate and for each crate
+/// that depends on it.
+fn copied(folder: &Path) -> io::Result<PathBuf> {
+    let out = PathBuf::from(env::var_os("OUT_DIR").unwrap());
+    for entry in fs::read_dir(folder)? {
+        let entry = entry?;
+        let name = entry.file_name();
+        if name.to_string_lossy().starts_with(Kind::Shared.file()) {
+            fs::copy(entry.path(), out.join(name))?;
+        }
+    }
+    Ok(out)
 }
 
 /// The two forms of the library.
@@ -51,12 +73,24 @@ impl Kind {
     }
 }
 
-/// Returns the folder of the library.
-fn folder() -> PathBuf {
+/// Returns the folder of the library, or `None` if nothing names one.
+fn folder() -> Option<PathBuf> {
     env::var_os("RANGE_SET_LIB_DIR")
         .map(PathBuf::from)
         .or_else(of_pkg_config)
-        .unwrap_or_else(of_repository)
+        .or_else(of_repository)
+}
+
+/// Lets `cargo check` and editors work without the library. If a program is linked, the linker
+/// looks in vain for a library whose name says what to do.
+fn without_library() {
+    println!(
+        "cargo:warning=the C library range_set is missing: install it so that pkg-config finds \
+         it, or set RANGE_SET_LIB_DIR to the folder that has librange_set.a or librange_set.so"
+    );
+    println!("cargo:rustc-link-lib=dylib=range_set_IS_MISSING__set_RANGE_SET_LIB_DIR");
+    // This file is not there, so cargo runs the script again each time, until it finds the library.
+    println!("cargo:rerun-if-changed=librange_set.so");
 }
 
 /// Returns the folder that `pkg-config` names. It does so only if the library's version suits this
@@ -98,10 +132,12 @@ fn versions() -> (String, String) {
     (env::var("CARGO_PKG_VERSION").unwrap(), below)
 }
 
-/// Returns the folder in which `tools/c/build` leaves the library.
-fn of_repository() -> PathBuf {
+/// Returns the folder in which `tools/c/build` leaves the library, if it is there.
+fn of_repository() -> Option<PathBuf> {
     let here = PathBuf::from(env::var_os("CARGO_MANIFEST_DIR").unwrap());
-    here.parent().unwrap_or(&here).join("out/lib")
+    let folder = here.parent()?.join("out/lib");
+    let has = |kind: Kind| folder.join(kind.file()).exists();
+    (has(Kind::Static) || has(Kind::Shared)).then_some(folder)
 }
 
 /// Returns which form to link: what `RANGE_SET_LINK` says, and otherwise the static one if it is
@@ -116,7 +152,7 @@ fn kind(folder: &Path) -> Kind {
     let found = wanted.iter().find(|kind| folder.join(kind.file()).exists());
     *found.unwrap_or_else(|| {
         panic!(
-            "{} does not have {}: run tools/c/build, or set RANGE_SET_LIB_DIR to its folder",
+            "{} does not have {}: set RANGE_SET_LIB_DIR to its folder, or run tools/c/build",
             folder.display(),
             wanted[0].file()
         )

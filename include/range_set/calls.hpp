@@ -42,6 +42,11 @@ namespace range_set::detail {
         static constexpr auto run_before = rsb_##width##_run_before;                                                       \
         static constexpr auto runs_in = rsb_##width##_runs_in;                                                             \
         static constexpr auto first_gap = rsb_##width##_first_gap;                                                         \
+        static constexpr auto next_gap = rsb_##width##_next_gap;                                                           \
+        static constexpr auto prev_gap = rsb_##width##_prev_gap;                                                           \
+        static constexpr auto gap_after = rsb_##width##_gap_after;                                                         \
+        static constexpr auto gap_before = rsb_##width##_gap_before;                                                       \
+        static constexpr auto from_runs = rsb_##width##_from_runs;                                                         \
         static constexpr auto either = rsb_##width##_union;                                                                \
         static constexpr auto both = rsb_##width##_intersection;                                                           \
         static constexpr auto left_alone = rsb_##width##_difference;                                                       \

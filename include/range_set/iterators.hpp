@@ -31,29 +31,11 @@ template <class Number> struct gap_walk {
     using place = run<Number>;
     using value_type = run<Number>;
 
-    static bool first(const handle &set, place &at) noexcept { return c::first_gap(&set, 0, 1, &at); }
-    static bool last(const handle &set, place &at) noexcept { return gap_up_to(set, greatest<Number>, at); }
-
-    static bool after(const handle &set, place &at) noexcept {
-        return at.last != greatest<Number> && c::first_gap(&set, at.last + 1, 1, &at);
-    }
-
-    static bool before(const handle &set, place &at) noexcept { return at.first != 0 && gap_up_to(set, at.first - 1, at); }
+    static bool first(const handle &set, place &at) noexcept { return c::next_gap(&set, 0, &at); }
+    static bool last(const handle &set, place &at) noexcept { return c::prev_gap(&set, greatest<Number>, &at); }
+    static bool after(const handle &set, place &at) noexcept { return c::gap_after(&set, at.last, &at); }
+    static bool before(const handle &set, place &at) noexcept { return c::gap_before(&set, at.first, &at); }
     static value_type value(const place &at) noexcept { return at; }
-
-private:
-    // Stores the gap that contains the value, or otherwise the last gap before it.
-    static bool gap_up_to(const handle &set, Number value, place &at) noexcept {
-        place block;
-        if (c::run_or_gap(&set, value, &block)) {
-            if (block.first == 0) {
-                return false;
-            }
-            c::run_or_gap(&set, block.first - 1, &block);
-        }
-        at = block;
-        return true;
-    }
 };
 
 template <class Number> struct member_walk {

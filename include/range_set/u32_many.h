@@ -10,7 +10,7 @@
 #define RANGE_SET_U32_MANY_H
 
 /* Adds copies of sets to a list until an allocation fails. */
-RSB_INLINE uint32_t rsb_private_u32_listed(
+RSB_NODISCARD RSB_INLINE uint32_t rsb_private_u32_listed(
     rsb_u32_sets *list, const rsb_u32 *const *sets, size_t count) {
     for (size_t i = 0; i < count; i++) {
         if (rsb_u32_sets_add(list, sets[i]) == RSB_NO_MEMORY) {
@@ -21,7 +21,7 @@ RSB_INLINE uint32_t rsb_private_u32_listed(
 }
 
 /* Sets `out` to the values in at least one of the sets. If there are no sets, it is empty. */
-RSB_INLINE uint32_t rsb_u32_union_of(rsb_u32 *out, const rsb_u32 *const *sets, size_t count) {
+RSB_NODISCARD RSB_INLINE uint32_t rsb_u32_union_of(rsb_u32 *out, const rsb_u32 *const *sets, size_t count) {
     rsb_u32_sets list = RSB_EMPTY;
     uint32_t status = rsb_private_u32_listed(&list, sets, count);
     if (status == RSB_CHANGED) {
@@ -32,7 +32,7 @@ RSB_INLINE uint32_t rsb_u32_union_of(rsb_u32 *out, const rsb_u32 *const *sets, s
 }
 
 /* Sets `out` to the values in all of the sets. If there are no sets, it has every uint32_t. */
-RSB_INLINE uint32_t rsb_u32_intersection_of(
+RSB_NODISCARD RSB_INLINE uint32_t rsb_u32_intersection_of(
     rsb_u32 *out, const rsb_u32 *const *sets, size_t count) {
     rsb_u32_sets list = RSB_EMPTY;
     uint32_t status = rsb_private_u32_listed(&list, sets, count);
@@ -44,7 +44,7 @@ RSB_INLINE uint32_t rsb_u32_intersection_of(
 }
 
 /* Sets `out` to the values in an odd number of the sets. If there are no sets, it is empty. */
-RSB_INLINE uint32_t rsb_u32_symmetric_difference_of(
+RSB_NODISCARD RSB_INLINE uint32_t rsb_u32_symmetric_difference_of(
     rsb_u32 *out, const rsb_u32 *const *sets, size_t count) {
     rsb_u32_sets list = RSB_EMPTY;
     uint32_t status = rsb_private_u32_listed(&list, sets, count);
@@ -56,7 +56,7 @@ RSB_INLINE uint32_t rsb_u32_symmetric_difference_of(
 }
 
 /* Sets `out` to the values in at least k of the sets. If k is 0, it has every uint32_t. */
-RSB_INLINE uint32_t rsb_u32_at_least(
+RSB_NODISCARD RSB_INLINE uint32_t rsb_u32_at_least(
     rsb_u32 *out, const rsb_u32 *const *sets, size_t count, size_t k) {
     rsb_u32_sets list = RSB_EMPTY;
     uint32_t status = rsb_private_u32_listed(&list, sets, count);

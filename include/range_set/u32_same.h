@@ -8,7 +8,7 @@
 #define RANGE_SET_U32_SAME_H
 
 /* Removes all members. Returns RSB_UNCHANGED if there are none. */
-RSB_INLINE uint32_t rsb_private_u32_emptied(rsb_u32 *set) {
+RSB_NODISCARD RSB_INLINE uint32_t rsb_private_u32_emptied(rsb_u32 *set) {
     if (rsb_u32_run_count(set) == 0) {
         return RSB_UNCHANGED;
     }
@@ -17,7 +17,7 @@ RSB_INLINE uint32_t rsb_private_u32_emptied(rsb_u32 *set) {
 }
 
 /* What a call returns if it made the set that a call in place left. */
-RSB_INLINE uint32_t rsb_private_u32_made(uint32_t status) {
+RSB_NODISCARD RSB_INLINE uint32_t rsb_private_u32_made(uint32_t status) {
     if (status == RSB_UNCHANGED) {
         return RSB_CHANGED;
     }
@@ -25,7 +25,7 @@ RSB_INLINE uint32_t rsb_private_u32_made(uint32_t status) {
 }
 
 /* Moves a set to `out`, unless the call that made it has failed. */
-RSB_INLINE uint32_t rsb_private_u32_moved(uint32_t status, rsb_u32 *out, const rsb_u32 *made) {
+RSB_NODISCARD RSB_INLINE uint32_t rsb_private_u32_moved(uint32_t status, rsb_u32 *out, const rsb_u32 *made) {
     if (status == RSB_CHANGED) {
         rsb_u32_free(out);
         *out = *made;
@@ -35,28 +35,28 @@ RSB_INLINE uint32_t rsb_private_u32_moved(uint32_t status, rsb_u32 *out, const r
 
 /* ---- Changes in place. */
 
-RSB_INLINE uint32_t rsb_checked_u32_union_with(rsb_u32 *set, const rsb_u32 *other) {
+RSB_NODISCARD RSB_INLINE uint32_t rsb_checked_u32_union_with(rsb_u32 *set, const rsb_u32 *other) {
     if (set == other) {
         return RSB_UNCHANGED;
     }
     return rsb_u32_union_with(set, other);
 }
 
-RSB_INLINE uint32_t rsb_checked_u32_intersect_with(rsb_u32 *set, const rsb_u32 *other) {
+RSB_NODISCARD RSB_INLINE uint32_t rsb_checked_u32_intersect_with(rsb_u32 *set, const rsb_u32 *other) {
     if (set == other) {
         return RSB_UNCHANGED;
     }
     return rsb_u32_intersect_with(set, other);
 }
 
-RSB_INLINE uint32_t rsb_checked_u32_subtract(rsb_u32 *set, const rsb_u32 *other) {
+RSB_NODISCARD RSB_INLINE uint32_t rsb_checked_u32_subtract(rsb_u32 *set, const rsb_u32 *other) {
     if (set == other) {
         return rsb_private_u32_emptied(set);
     }
     return rsb_u32_subtract(set, other);
 }
 
-RSB_INLINE uint32_t rsb_checked_u32_xor_with(rsb_u32 *set, const rsb_u32 *other) {
+RSB_NODISCARD RSB_INLINE uint32_t rsb_checked_u32_xor_with(rsb_u32 *set, const rsb_u32 *other) {
     if (set == other) {
         return rsb_private_u32_emptied(set);
     }
@@ -65,14 +65,14 @@ RSB_INLINE uint32_t rsb_checked_u32_xor_with(rsb_u32 *set, const rsb_u32 *other)
 
 /* ---- New sets. */
 
-RSB_INLINE uint32_t rsb_checked_u32_clone(rsb_u32 *out, const rsb_u32 *set) {
+RSB_NODISCARD RSB_INLINE uint32_t rsb_checked_u32_clone(rsb_u32 *out, const rsb_u32 *set) {
     if (out == set) {
         return RSB_CHANGED;
     }
     return rsb_u32_clone(out, set);
 }
 
-RSB_INLINE uint32_t rsb_checked_u32_complement(rsb_u32 *out, const rsb_u32 *set) {
+RSB_NODISCARD RSB_INLINE uint32_t rsb_checked_u32_complement(rsb_u32 *out, const rsb_u32 *set) {
     if (out == set) {
         rsb_u32 made = RSB_EMPTY;
         return rsb_private_u32_moved(rsb_u32_complement(&made, set), out, &made);
@@ -80,7 +80,7 @@ RSB_INLINE uint32_t rsb_checked_u32_complement(rsb_u32 *out, const rsb_u32 *set)
     return rsb_u32_complement(out, set);
 }
 
-RSB_INLINE uint32_t rsb_checked_u32_union(
+RSB_NODISCARD RSB_INLINE uint32_t rsb_checked_u32_union(
     rsb_u32 *out, const rsb_u32 *left, const rsb_u32 *right) {
     if (left == right) {
         return rsb_checked_u32_clone(out, left);
@@ -94,7 +94,7 @@ RSB_INLINE uint32_t rsb_checked_u32_union(
     return rsb_u32_union(out, left, right);
 }
 
-RSB_INLINE uint32_t rsb_checked_u32_intersection(
+RSB_NODISCARD RSB_INLINE uint32_t rsb_checked_u32_intersection(
     rsb_u32 *out, const rsb_u32 *left, const rsb_u32 *right) {
     if (left == right) {
         return rsb_checked_u32_clone(out, left);
@@ -108,7 +108,7 @@ RSB_INLINE uint32_t rsb_checked_u32_intersection(
     return rsb_u32_intersection(out, left, right);
 }
 
-RSB_INLINE uint32_t rsb_checked_u32_difference(
+RSB_NODISCARD RSB_INLINE uint32_t rsb_checked_u32_difference(
     rsb_u32 *out, const rsb_u32 *left, const rsb_u32 *right) {
     if (left == right) {
         rsb_u32_free(out);
@@ -124,7 +124,7 @@ RSB_INLINE uint32_t rsb_checked_u32_difference(
     return rsb_u32_difference(out, left, right);
 }
 
-RSB_INLINE uint32_t rsb_checked_u32_symmetric_difference(
+RSB_NODISCARD RSB_INLINE uint32_t rsb_checked_u32_symmetric_difference(
     rsb_u32 *out, const rsb_u32 *left, const rsb_u32 *right) {
     if (left == right) {
         rsb_u32_free(out);

@@ -7,7 +7,7 @@
 #define RANGE_SET_U64_SAME_H
 
 /* Removes all members. Returns RSB_UNCHANGED if there are none. */
-RSB_INLINE uint32_t rsb_private_u64_emptied(rsb_u64 *set) {
+RSB_NODISCARD RSB_INLINE uint32_t rsb_private_u64_emptied(rsb_u64 *set) {
     if (rsb_u64_run_count(set) == 0) {
         return RSB_UNCHANGED;
     }
@@ -16,7 +16,7 @@ RSB_INLINE uint32_t rsb_private_u64_emptied(rsb_u64 *set) {
 }
 
 /* What a call returns if it made the set that a call in place left. */
-RSB_INLINE uint32_t rsb_private_u64_made(uint32_t status) {
+RSB_NODISCARD RSB_INLINE uint32_t rsb_private_u64_made(uint32_t status) {
     if (status == RSB_UNCHANGED) {
         return RSB_CHANGED;
     }
@@ -24,7 +24,7 @@ RSB_INLINE uint32_t rsb_private_u64_made(uint32_t status) {
 }
 
 /* Moves a set to `out`, unless the call that made it has failed. */
-RSB_INLINE uint32_t rsb_private_u64_moved(uint32_t status, rsb_u64 *out, const rsb_u64 *made) {
+RSB_NODISCARD RSB_INLINE uint32_t rsb_private_u64_moved(uint32_t status, rsb_u64 *out, const rsb_u64 *made) {
     if (status == RSB_CHANGED) {
         rsb_u64_free(out);
         *out = *made;
@@ -34,28 +34,28 @@ RSB_INLINE uint32_t rsb_private_u64_moved(uint32_t status, rsb_u64 *out, const r
 
 /* ---- Changes in place. */
 
-RSB_INLINE uint32_t rsb_checked_u64_union_with(rsb_u64 *set, const rsb_u64 *other) {
+RSB_NODISCARD RSB_INLINE uint32_t rsb_checked_u64_union_with(rsb_u64 *set, const rsb_u64 *other) {
     if (set == other) {
         return RSB_UNCHANGED;
     }
     return rsb_u64_union_with(set, other);
 }
 
-RSB_INLINE uint32_t rsb_checked_u64_intersect_with(rsb_u64 *set, const rsb_u64 *other) {
+RSB_NODISCARD RSB_INLINE uint32_t rsb_checked_u64_intersect_with(rsb_u64 *set, const rsb_u64 *other) {
     if (set == other) {
         return RSB_UNCHANGED;
     }
     return rsb_u64_intersect_with(set, other);
 }
 
-RSB_INLINE uint32_t rsb_checked_u64_subtract(rsb_u64 *set, const rsb_u64 *other) {
+RSB_NODISCARD RSB_INLINE uint32_t rsb_checked_u64_subtract(rsb_u64 *set, const rsb_u64 *other) {
     if (set == other) {
         return rsb_private_u64_emptied(set);
     }
     return rsb_u64_subtract(set, other);
 }
 
-RSB_INLINE uint32_t rsb_checked_u64_xor_with(rsb_u64 *set, const rsb_u64 *other) {
+RSB_NODISCARD RSB_INLINE uint32_t rsb_checked_u64_xor_with(rsb_u64 *set, const rsb_u64 *other) {
     if (set == other) {
         return rsb_private_u64_emptied(set);
     }
@@ -64,14 +64,14 @@ RSB_INLINE uint32_t rsb_checked_u64_xor_with(rsb_u64 *set, const rsb_u64 *other)
 
 /* ---- New sets. */
 
-RSB_INLINE uint32_t rsb_checked_u64_clone(rsb_u64 *out, const rsb_u64 *set) {
+RSB_NODISCARD RSB_INLINE uint32_t rsb_checked_u64_clone(rsb_u64 *out, const rsb_u64 *set) {
     if (out == set) {
         return RSB_CHANGED;
     }
     return rsb_u64_clone(out, set);
 }
 
-RSB_INLINE uint32_t rsb_checked_u64_complement(rsb_u64 *out, const rsb_u64 *set) {
+RSB_NODISCARD RSB_INLINE uint32_t rsb_checked_u64_complement(rsb_u64 *out, const rsb_u64 *set) {
     if (out == set) {
         rsb_u64 made = RSB_EMPTY;
         return rsb_private_u64_moved(rsb_u64_complement(&made, set), out, &made);
@@ -79,7 +79,7 @@ RSB_INLINE uint32_t rsb_checked_u64_complement(rsb_u64 *out, const rsb_u64 *set)
     return rsb_u64_complement(out, set);
 }
 
-RSB_INLINE uint32_t rsb_checked_u64_union(
+RSB_NODISCARD RSB_INLINE uint32_t rsb_checked_u64_union(
     rsb_u64 *out, const rsb_u64 *left, const rsb_u64 *right) {
     if (left == right) {
         return rsb_checked_u64_clone(out, left);
@@ -93,7 +93,7 @@ RSB_INLINE uint32_t rsb_checked_u64_union(
     return rsb_u64_union(out, left, right);
 }
 
-RSB_INLINE uint32_t rsb_checked_u64_intersection(
+RSB_NODISCARD RSB_INLINE uint32_t rsb_checked_u64_intersection(
     rsb_u64 *out, const rsb_u64 *left, const rsb_u64 *right) {
     if (left == right) {
         return rsb_checked_u64_clone(out, left);
@@ -107,7 +107,7 @@ RSB_INLINE uint32_t rsb_checked_u64_intersection(
     return rsb_u64_intersection(out, left, right);
 }
 
-RSB_INLINE uint32_t rsb_checked_u64_difference(
+RSB_NODISCARD RSB_INLINE uint32_t rsb_checked_u64_difference(
     rsb_u64 *out, const rsb_u64 *left, const rsb_u64 *right) {
     if (left == right) {
         rsb_u64_free(out);
@@ -123,7 +123,7 @@ RSB_INLINE uint32_t rsb_checked_u64_difference(
     return rsb_u64_difference(out, left, right);
 }
 
-RSB_INLINE uint32_t rsb_checked_u64_symmetric_difference(
+RSB_NODISCARD RSB_INLINE uint32_t rsb_checked_u64_symmetric_difference(
     rsb_u64 *out, const rsb_u64 *left, const rsb_u64 *right) {
     if (left == right) {
         rsb_u64_free(out);

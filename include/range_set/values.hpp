@@ -4,11 +4,19 @@
 
 #include "calls.hpp"
 
+#include <cstdlib>
 #include <iosfwd>
 #include <limits>
 #include <stdexcept>
 #include <type_traits>
 #include <utility>
+
+// Where a program is compiled without exceptions, what would throw ends it by std::abort.
+#if defined(__cpp_exceptions) || defined(__EXCEPTIONS) || defined(_CPPUNWIND)
+#define RANGE_SET_THROW(error) throw error
+#else
+#define RANGE_SET_THROW(error) std::abort()
+#endif
 
 namespace range_set {
 
@@ -29,12 +37,18 @@ inline constexpr bool always_fits = is_integer<Argument> && std::is_unsigned_v<A
                                     std::numeric_limits<Argument>::digits <= std::numeric_limits<Number>::digits;
 
 template <class Number, class Argument> constexpr bool fits(Argument argument) noexcept {
-    if constexpr (std::is_signed_v<Argument>) {
-        if (argument < 0) {
-            return false;
+    static_assert(is_integer<Argument>, "range_set takes arguments of the standard integer types: not bool, and no "
+                                        "character, floating-point or enum type. Cast the argument if you mean its number.");
+    if constexpr (is_integer<Argument>) {
+        if constexpr (std::is_signed_v<Argument>) {
+            if (argument < 0) {
+                return false;
+            }
         }
+        return static_cast<std::make_unsigned_t<Argument>>(argument) <= greatest<Number>;
+    } else {
+        return false;
     }
-    return static_cast<std::make_unsigned_t<Argument>>(argument) <= greatest<Number>;
 }
 
 // Returns the argument as a Number. This function is the rule on arguments in range_set.hpp.
@@ -44,10 +58,22 @@ constexpr Number number_of(Argument argument) noexcept(always_fits<Number, Argum
                                         "character, floating-point or enum type. Cast the argument if you mean its number.");
     if constexpr (is_integer<Argument> && !always_fits<Number, Argument>) {
         if (!fits<Number>(argument)) {
-            throw std::out_of_range("range_set: an argument is negative or too great");
+            RANGE_SET_THROW(std::out_of_range("range_set: an argument is negative or too great"));
         }
     }
     return static_cast<Number>(argument);
+}
+
+// Whether an argument is less than each value of the set, and whether it is greater than each.
+template <class Number, class Argument> constexpr bool is_below(Argument argument) noexcept {
+    if constexpr (std::is_signed_v<Argument>) {
+        return argument < 0;
+    }
+    return false;
+}
+
+template <class Number, class Argument> constexpr bool is_above(Argument argument) noexcept {
+    return !fits<Number>(argument) && !is_below<Number>(argument);
 }
 
 // What may stand where a value is expected. number_of refuses some of it, and its message says why.
@@ -101,7 +127,7 @@ struct count : rsb_u64_count {
     // Throws std::overflow_error if the number is 2^64.
     constexpr std::uint64_t value() const {
         if (high != 0) {
-            throw std::overflow_error("range_set: 2^64 members are too many for a std::uint64_t");
+            RANGE_SET_THROW(std::overflow_error("range_set: 2^64 members are too many for a std::uint64_t"));
         }
         return low;
     }

@@ -4,6 +4,7 @@ from __future__ import annotations
 
 import ctypes
 import sys
+from array import array
 from typing import TYPE_CHECKING, Any, Callable, Dict, Tuple, Type
 
 from ._library import load_library
@@ -79,6 +80,7 @@ class Calls:
         self.bits = bits
         self.greatest = 2**bits - 1
         self.number: Any = ctypes.c_uint64 if bits == 64 else ctypes.c_uint32
+        self.code = next(code for code in "IQ" if array(code).itemsize * 8 == bits)
         self.run: Any = run_type(self.number)
         self._prefix = f"rsb_u{bits}_"
         self.handle: Any = handle_type(self._call(library, "free"))
@@ -126,9 +128,11 @@ class Calls:
             "rank": (exact, (number,)),
             "nth": (truth, (ctypes.c_uint64, value)),
             "run_count": (ctypes.c_size_t, ()),
+            "runs_in": (size, (number, number, block, size)),
             "first_gap": (truth, (number, ctypes.c_uint64, block)),
             "complement": (changed, (other,)),
             "clone": (changed, (other,)),
+            "from_runs": (changed, (block, size)),
             "from_text": (changed, (text, size)),
             "to_text": (changed, (text, size, ctypes.POINTER(size))),
             "order": (ctypes.c_int32, (other,)),

@@ -10,6 +10,9 @@ from pathlib import Path
 VARIABLE = "RANGE_SET_LIBRARY"
 FILE_NAME = "librange_set.so"
 
+# Where the library is if this package is used in the repository, and not installed.
+BUILT = Path(__file__).resolve().parents[2] / "out" / "lib" / FILE_NAME
+
 MISSING = f"""range_set does not find the C library {FILE_NAME}.
 Either set the environment variable {VARIABLE} to its path, or build it with tools/c/build at the
 top of the repository and then install this package again, with pip install ./python."""
@@ -20,9 +23,9 @@ def library_path() -> str:
     named = os.environ.get(VARIABLE)
     if named:
         return os.path.abspath(named)
-    beside = Path(__file__).with_name(FILE_NAME)
-    if beside.exists():
-        return str(beside)
+    for path in (Path(__file__).with_name(FILE_NAME), BUILT):
+        if path.exists():
+            return str(path)
     installed = ctypes.util.find_library("range_set")
     if installed:
         return installed

@@ -3,27 +3,52 @@
 from __future__ import annotations
 
 import ctypes
+from array import array
+from collections import abc
+from itertools import chain
 from operator import index
 from struct import pack, unpack
-from typing import Any, Iterable, Iterator, Optional, SupportsIndex, Tuple, Type, TypeVar, Union, overload
+from typing import (
+    TYPE_CHECKING,
+    AbstractSet,
+    Any,
+    Callable,
+    Iterable,
+    Iterator,
+    Optional,
+    SupportsIndex,
+    Tuple,
+    Type,
+    TypeVar,
+    Union,
+    overload,
+)
 
 from ._calls import Calls, calls_for
-from ._values import Run, Values, all_ends, checked, ends_of, unchecked_ends
+from ._values import Run, Values, all_ends, checked, held_ends, ints_twice, range_ends, whole
 from ._walks import Gaps, Runs
+
+# Type checkers see sets of ints, and the interpreter sees the class without a parameter.
+if TYPE_CHECKING:
+    IntSet = AbstractSet[int]
+else:
+    IntSet = abc.Set
 
 # The greatest number that the C library takes as an index or a length, for sets of both widths.
 LONGEST = 2**64 - 1
 
 Self = TypeVar("Self", bound="Reads")
 Source = Union["Reads", range, Run, Iterable[Values]]
+Ends = Callable[[Any, int], Iterable[Tuple[int, int]]]
 
 
-class Reads:
+class Reads(IntSet):
     """A set that owns its handle, and the calls for its width."""
 
-    __slots__ = ("_calls", "_handle", "__weakref__")
+    __slots__ = ("_calls", "_handle", "_changes", "__weakref__")
     _calls: Calls
     _handle: Any
+    _changes: int  # how many calls have changed the set
 
     def _begin(self, values: Source, bits: Optional[int]) -> None:
         """Makes this the set of some values."""
@@ -33,11 +58,11 @@ class Reads:
         if isinstance(values, Reads) and values.bits == bits:
             self._calls.clone(self._handle, values._handle)
         else:
-            self._add_each(values)
+            self._set_to(values, all_ends)
 
     def _own(self, calls: Calls) -> None:
         """Makes this an empty set of a width."""
-        self._calls, self._handle = calls, calls.handle()
+        self._calls, self._handle, self._changes = calls, calls.handle(), 0
 
     @classmethod
     def _empty(cls: Type[Self], calls: Calls) -> Self:
@@ -50,11 +75,21 @@ class Reads:
         self._calls.clone(made._handle, self._handle)
         return made
 
-    def _add_each(self, values: Source) -> None:
-        calls, handle = self._calls, self._handle
+    def _set_to(self, values: Source, ends: Ends) -> None:
+        """Makes this new set the set of some values, whose ends `ends` yields."""
+        calls = self._calls
         each = values.runs() if isinstance(values, Reads) else values
-        for first, last in all_ends(each, calls.greatest):
-            calls.insert_range(handle, first, last)
+        flat = ints_twice(each, calls.code)
+        if flat is None:
+            flat = array(calls.code, chain.from_iterable(ends(each, calls.greatest)))
+        if flat:
+            count = len(flat) // 2
+            calls.from_runs(self._handle, (calls.run * count).from_buffer(flat), count)
+
+    def _unchanged_since(self, seen: int) -> None:
+        """Raises RuntimeError if the set has changed since a walk began."""
+        if self._changes != seen:
+            raise RuntimeError("the set changed during iteration")
 
     def _run(self, call: Any, *arguments: int) -> Optional[Run]:
         """Returns the run or gap that a call stores, or None if it stores none."""
@@ -73,15 +108,22 @@ class Reads:
 
     # ---- Members.
 
-    def __contains__(self, values: Values) -> bool:
-        """Returns whether a value, or each value of a `range` or a `Run`, is a member."""
-        calls = self._calls
+    def __contains__(self, values: object) -> bool:
+        """Returns whether a value, or each value of a `range` or a `Run`, is a member.
+
+        As for a Python set, a value may be of any hashable type, and 1.0 is the same value as 1.
+        """
         if isinstance(values, (range, Run)):
-            first, last = unchecked_ends(values)
-            fits = first >= 0 and last <= calls.greatest
-            return fits and calls.contains_range(self._handle, first, last)
-        value = index(values)
-        return 0 <= value <= calls.greatest and calls.contains(self._handle, value)
+            first, last = range_ends(values)
+            fits = first >= 0 and last <= self._calls.greatest
+            return fits and self._calls.contains_range(self._handle, first, last)
+        return self._has(values)
+
+    def _has(self, value: object) -> bool:
+        """Returns whether an object equals a member."""
+        number = value if type(value) is int else whole(value)
+        calls = self._calls
+        return number is not None and 0 <= number <= calls.greatest and calls.contains(self._handle, number)
 
     def __bool__(self) -> bool:
         return self._calls.run_count(self._handle) > 0
@@ -97,8 +139,11 @@ class Reads:
         """
         if values is None:
             return self._calls.len(self._handle)
-        ends = ends_of(values, last, self._calls.greatest)
-        return self._calls.len_in(self._handle, *ends)
+        if not isinstance(values, (range, Run)):
+            values = Run(index(values), index(values if last is None else last))
+        elif last is not None:
+            raise TypeError("count takes a first and a last value, or one range or run")
+        return self._calls.len_in(self._handle, *held_ends(values, None, self._calls.greatest))
 
     def rank(self, value: SupportsIndex) -> int:
         """Returns the number of members below a value, which need not be a member."""
@@ -139,24 +184,39 @@ class Reads:
         made = self._empty(self._calls)
         if start < stop:
             window = self._empty(self._calls)
-            window._add_each(Run(self[start], self[stop - 1]))
+            window._set_to(Run(self[start], self[stop - 1]), all_ends)
             self._calls.intersection(made._handle, self._handle, window._handle)
         return made
 
     def __iter__(self) -> Iterator[int]:
-        """Yields the members in ascending order."""
+        """Yields the members in ascending order.
+
+        If the set changes during the walk, the next step raises RuntimeError, as for a Python set.
+        """
+        seen = self._changes
         for run in self.runs():
-            yield from run.values()
+            for value in run.values():
+                yield value
+                if self._changes != seen:
+                    self._unchanged_since(seen)
 
     def __reversed__(self) -> Iterator[int]:
-        """Yields the members in descending order."""
+        """Yields the members in descending order, as `iter` yields them in ascending order."""
+        seen = self._changes
         for run in reversed(self.runs()):
-            yield from reversed(run.values())
+            for value in reversed(run.values()):
+                yield value
+                if self._changes != seen:
+                    self._unchanged_since(seen)
 
     # ---- Runs and gaps.
 
     def runs(self) -> Runs:
         """Returns a view of the runs, to iterate over in either direction."""
+        return Runs(self)
+
+    def ranges(self) -> Runs:
+        """Returns the same as `runs`."""
         return Runs(self)
 
     def gaps(self) -> Gaps:
@@ -198,6 +258,33 @@ class Reads:
     def run_before(self, value: SupportsIndex) -> Optional[Run]:
         """Returns the last run that ends before a value, or None."""
         return self._run(self._calls.run_before, checked(value, self._calls.greatest))
+
+    def next_gap(self, value: SupportsIndex = 0) -> Optional[Run]:
+        """Returns the gap that contains a value, or else the first gap after it, or None."""
+        found, block = self._run_or_gap(value)
+        if not found:
+            return block
+        return None if block.last == self._calls.greatest else self.gap_of(block.last + 1)
+
+    def prev_gap(self, value: Optional[SupportsIndex] = None) -> Optional[Run]:
+        """Returns the gap that contains a value, or else the last gap before it, or None.
+
+        Without a value, it starts from the greatest one.
+        """
+        found, block = self._run_or_gap(self._calls.greatest if value is None else value)
+        if not found:
+            return block
+        return None if block.first == 0 else self.gap_of(block.first - 1)
+
+    def gap_after(self, value: SupportsIndex) -> Optional[Run]:
+        """Returns the first gap that starts after a value, or None."""
+        run = self.next_run(value)
+        return None if run is None or run.last == self._calls.greatest else self.gap_of(run.last + 1)
+
+    def gap_before(self, value: SupportsIndex) -> Optional[Run]:
+        """Returns the last gap that ends before a value, or None."""
+        run = self.prev_run(value)
+        return None if run is None or run.first == 0 else self.gap_of(run.first - 1)
 
     def first_gap(self, length: SupportsIndex = 1, start: SupportsIndex = 0) -> Optional[Run]:
         """Returns the first gap with at least `length` values at or after `start`, or None.
@@ -260,5 +347,5 @@ class Reads:
         """Returns the set whose runs have these ends, which is what a pickle keeps."""
         ends = iter(unpack(f"<{len(data) // 8}Q", data))
         made = cls._empty(calls_for(bits))
-        made._add_each(Run(first, last) for first, last in zip(ends, ends))
+        made._set_to((Run(first, last) for first, last in zip(ends, ends)), all_ends)
         return made

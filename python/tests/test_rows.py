@@ -1,7 +1,10 @@
 """Each call on small sets, with results worked out by hand."""
 
+import copy
 import doctest
 import functools
+import json
+import pickle
 import random
 import unittest
 from collections import abc
@@ -29,6 +32,20 @@ class Members(unittest.TestCase):
             self.assertEqual(list(kind(range(3, 0, -1), bits=bits)), [1, 2, 3])
             for source in ((), range(0), range(5, 1), Run(5, 1), [range(0)], [Run(1, 0)], [range(-5, -5)]):
                 self.assertFalse(kind(source, bits=bits))
+
+    def test_over_a_million_runs(self):
+        count = 1_000_003
+        values = [3 * (7919 * at % count) for at in range(count)]
+        for bits in GREATEST:
+            made = RangeSet(values, bits=bits)
+            self.assertEqual((len(made), len(made.runs()), made.last()), (count, count, 3 * count - 3))
+            made.remove(3 * 500_000)
+            self.assertTrue(made.add(3 * 500_000) and made.discard(0) and made.add(0, 1) and made.discard(range(1, 3)))
+            self.assertFalse(made - made or made ^ made)
+            self.assertEqual((made == RangeSet(values, bits=bits), len((~made).runs())), (True, count))
+            made.difference_update(values[:1000])
+            made &= RangeSet(range(3 * count), bits=bits)
+            self.assertEqual(len(made), count - 1000)
 
     def test_width_of_a_copy(self):
         narrow = RangeSet([GREATEST[32]], bits=32)
@@ -64,8 +81,10 @@ class Members(unittest.TestCase):
             made.remove(0)
             with self.assertRaisesRegex(KeyError, "0"):
                 made.remove(0)
-            with self.assertRaisesRegex(KeyError, r"Run\(first=1, last=3\)"):
+            with self.assertRaisesRegex(KeyError, r"range\(1, 4\)"):
                 made.remove(range(1, 4))
+            with self.assertRaisesRegex(KeyError, r"Run\(first=1, last=3\)"):
+                made.remove(1, 3)
             self.assertEqual(str(made), "1..=2, 5..=7")
 
     def test_pop_and_clear(self):
@@ -141,13 +160,55 @@ class LookUps(unittest.TestCase):
             self.assertEqual(list(kind(bits=bits).gaps()), [Run(0, top)])
             self.assertEqual(repr(made.runs()), "Runs([Run(first=0, last=5), Run(first=10, last=20)])")
 
-    def test_views_follow_changes(self):
-        made = RangeSet([1, 5, 9])
-        walk = iter(made.runs())
-        self.assertEqual(next(walk), Run(1, 1))
-        made.discard(5)
-        made.add(7)
-        self.assertEqual(list(walk), [Run(7, 7), Run(9, 9)])
+    def test_a_change_ends_a_walk(self):
+        """As for a Python set, whose loop raises RuntimeError if it adds or removes a member."""
+        walks = (lambda it: it, lambda it: it.runs(), lambda it: it.gaps(), lambda it: it.ranges())
+        walks += tuple(lambda it, walk=walk: reversed(walk(it)) for walk in walks)
+        changes = (lambda it, value: it.add(value + 20), lambda it, value: it.discard(5), lambda it, _: it.pop())
+        changes += (lambda it, _: it.clear(), lambda it, _: it.update([99]), lambda it, _: it.__ior__({50}))
+        changes += (lambda it, _: it.__iand__({7}), lambda it, _: it.__isub__({5}), lambda it, _: it.__ixor__({5}))
+        for bits in GREATEST:
+            for walk in walks:
+                for change in changes:
+                    made, steps = RangeSet([range(1, 10), 12, 40], bits=bits), 0
+                    with self.assertRaisesRegex(RuntimeError, "changed during iteration"):
+                        for at in walk(made):
+                            steps += 1
+                            change(made, at if isinstance(at, int) else at.last % 99)
+                    self.assertEqual(steps, 1)
+
+    def test_a_walk_goes_on_if_a_call_changes_nothing(self):
+        made = RangeSet([range(1, 10), 12])
+        for at in made:
+            self.assertFalse(made.add(at) or made.discard(at + 20))
+            made.update([at], made)
+            made |= {at}
+        self.assertEqual(at, 12)
+
+    def test_walks_past_a_block(self):
+        for bits, top in GREATEST.items():
+            for count in (63, 64, 65, 127, 128, 129, 200):
+                for last in (0, top):
+                    runs = [Run(3 * at, 3 * at + 1) for at in range(count)] + [Run(top, top)] * (last > 0)
+                    made = RangeSet(runs, bits=bits)
+                    self.assertEqual((list(made.runs()), list(reversed(made.runs()))), (runs, runs[::-1]))
+
+    def test_gaps_beside(self):
+        for kind, bits in EACH:
+            top = GREATEST[bits]
+            made = kind([Run(0, 5), Run(10, 20), Run(30, top - 1)], bits=bits)
+            low, middle, high = made.gaps()
+            self.assertEqual((low, middle, high), (Run(6, 9), Run(21, 29), Run(top, top)))
+            self.assertEqual([made.next_gap(it) for it in (0, 5, 6, 9, 10, 30, top)], [low, low, low, low, middle, high, high])
+            self.assertEqual([made.prev_gap(it) for it in (0, 5, 9, 10, 29, top - 1, top)], [None, None, low, low, middle, middle, high])
+            self.assertEqual([made.gap_after(it) for it in (0, 5, 6, 9, 21, 30, top)], [low, low, middle, middle, high, high, None])
+            self.assertEqual([made.gap_before(it) for it in (0, 9, 10, 20, 21, 30, top)], [None, None, low, low, low, middle, middle])
+            self.assertEqual((made.next_gap(), made.prev_gap()), (low, high))
+            for empty in (kind(bits=bits), ~kind(bits=bits)):
+                whole = Run(0, top) if not empty else None
+                for value in (0, 7, top):
+                    self.assertEqual((empty.next_gap(value), empty.prev_gap(value)), (whole, whole))
+                    self.assertEqual((empty.gap_after(value), empty.gap_before(value)), (None, None))
 
     def test_first_gap(self):
         for kind, bits in EACH:
@@ -164,8 +225,25 @@ class LookUps(unittest.TestCase):
             self.assertEqual((empty.first_gap(2**bits + 1), empty.first_gap(2**bits, 1)), (None, None))
 
     def test_run(self):
-        first, last = Run(10, 20)
-        self.assertEqual((first, last, Run(10, 20).size, Run(10, 20).values()), (10, 20, 11, range(10, 21)))
+        run = Run(10, 20)
+        first, last = run
+        self.assertEqual((first, last, run.size, run.values(), run.first, run.last), (10, 20, 11, range(10, 21), 10, 20))
+        self.assertTrue(15 in run and 10 in run and 20 in run and 15.0 in run)
+        self.assertFalse(9 in run or 21 in run or "x" in run or 15 in Run(20, 10))
+        self.assertEqual((run, hash(run), repr(run)), (Run(10, 20), hash(Run(10, 20)), "Run(first=10, last=20)"))
+        self.assertTrue(run != Run(10, 21) and run != (10, 20) and (10, 20) != run and run != range(10, 21))
+        self.assertEqual(sorted([Run(5, 9), Run(1, 3), Run(1, 2)]), [Run(1, 2), Run(1, 3), Run(5, 9)])
+        self.assertNotIsInstance(run, tuple)
+        for refused in (lambda: len(run), lambda: run[0], lambda: setattr(run, "first", 1), lambda: run < (1, 2)):
+            self.assertRaises((TypeError, AttributeError), refused)
+        for way in (copy.copy, copy.deepcopy, lambda it: pickle.loads(pickle.dumps(it))):
+            self.assertEqual(way(run), run)
+
+    def test_runs_by_way_of_pairs(self):
+        made = RangeSet([range(3), range(7, 9)])
+        pairs = json.loads(json.dumps([tuple(run) for run in made.runs()]))
+        self.assertEqual(pairs, [[0, 2], [7, 8]])
+        self.assertEqual(RangeSet(Run(*pair) for pair in pairs), made)
 
 
 class Algebra(unittest.TestCase):
@@ -286,20 +364,120 @@ class Comparisons(unittest.TestCase):
 
     def test_other_types(self):
         made = RangeSet([1])
-        self.assertFalse(made == {1} or made == 1 or {1} == made)
+        self.assertFalse(made == 1 or made == [1] or made == range(1, 2) or made == Run(1, 1) or made == {1: 1})
         self.assertIsInstance(made, abc.MutableSet)
         self.assertIsInstance(FrozenRangeSet(), abc.Set)
         self.assertNotIsInstance(FrozenRangeSet(), abc.MutableSet)
 
     def test_all_that_sets_have(self):
-        reflected = {"__rand__", "__ror__", "__rsub__", "__rxor__"}
         for kind, model in ((RangeSet, set), (FrozenRangeSet, frozenset)):
             missing = set(dir(model)) - set(dir(kind))
-            self.assertEqual(missing - {"__class_getitem__"}, reflected)
+            self.assertEqual(missing - {"__class_getitem__"}, set())
 
-    def test_widths_are_not_equal(self):
-        self.assertNotEqual(RangeSet([1]), RangeSet([1], bits=32))
-        self.assertNotEqual(hash(FrozenRangeSet([1])), hash(FrozenRangeSet([1], bits=32)))
+    def test_widths_compare_by_members(self):
+        wide, narrow, large = RangeSet([1]), FrozenRangeSet([1], bits=32), RangeSet([1, 2**40])
+        self.assertTrue(wide == narrow and narrow == wide and not wide < narrow and wide <= narrow and wide >= narrow)
+        self.assertTrue(narrow < large and large > narrow and narrow != large and narrow.issubset(large))
+        self.assertTrue(large.issuperset(narrow) and not large.isdisjoint(narrow) and narrow.isdisjoint(RangeSet([7])))
+        self.assertEqual((narrow.compare(wide), narrow.compare(large), large.compare(narrow)), (0, -1, 1))
+        self.assertEqual(hash(FrozenRangeSet([1])), hash(narrow))
+
+
+class OwnSet(abc.Set):
+    """A user's set."""
+
+    def __init__(self, members):
+        self.kept = sorted(set(members))
+
+    def __contains__(self, value):
+        return value in self.kept
+
+    def __iter__(self):
+        return iter(self.kept)
+
+    def __len__(self):
+        return len(self.kept)
+
+
+class PythonSets(unittest.TestCase):
+    """Range sets beside Python's sets of the same members, with each on the left and on the right."""
+
+    members = set(), {1}, {1, 2, 3}, {2, 4}, {0, 2, 4}, set(range(6)), {3, 9}
+
+    def forms(self, members):
+        """Returns Python sets with these members, of each kind that has operators."""
+        forms = [set(members), frozenset(members), dict.fromkeys(members).keys(), {it: 1 for it in members}.keys()]
+        return forms + [OwnSet(members)]
+
+    def test_comparisons(self):
+        for kind, bits in EACH:
+            for left in self.members:
+                made = kind(left, bits=bits)
+                for right in self.members:
+                    for other in self.forms(right):
+                        self.assertEqual((made == other, other == made), (left == right,) * 2)
+                        self.assertEqual((made != other, other != made), (left != right,) * 2)
+                        self.assertEqual((made <= other, other >= made), (left <= right,) * 2)
+                        self.assertEqual((made < other, other > made), (left < right,) * 2)
+                        self.assertEqual((made >= other, other <= made), (left >= right,) * 2)
+                        self.assertEqual((made > other, other < made), (left > right,) * 2)
+
+    def test_operators(self):
+        for kind, bits in EACH:
+            for left in self.members:
+                made = kind(left, bits=bits)
+                for right in self.members:
+                    for other in self.forms(right):
+                        self.assertEqual((made | other, other | made), (left | right,) * 2)
+                        self.assertEqual((made & other, other & made), (left & right,) * 2)
+                        self.assertEqual((made ^ other, other ^ made), (left ^ right,) * 2)
+                        self.assertEqual((made - other, other - made), (left - right, right - left))
+                        self.assertIs(type(made | other), kind)
+
+    def test_types_of_results(self):
+        for kind, bits in EACH:
+            made = kind([1, 2], bits=bits)
+            for other in ({1, 5}, frozenset([1, 5])):
+                results = made | other, other | made, made & other, other & made, made - other, other - made, other ^ made
+                self.assertEqual({(type(it), it.bits) for it in results}, {(kind, bits)})
+
+    def test_in_place(self):
+        made = same = RangeSet(range(6))
+        made |= {9}
+        made &= frozenset([1, 2, 9, -5])
+        made -= {2: 0, "x": 0}.keys()
+        made ^= {1, 3}
+        self.assertIs(made, same)
+        self.assertEqual(made, {3, 9})
+        plain = {1, 2}
+        plain |= made
+        self.assertEqual((type(plain), plain), (RangeSet, {1, 2, 3, 9}))
+
+    def test_ranges_in_a_python_set_are_no_members(self):
+        made = RangeSet([1])
+        self.assertFalse(made == {Run(1, 1)} or made == {range(1, 2)} or made >= {Run(1, 1)} or made <= {range(1, 2)})
+
+    def test_hashes(self):
+        for bits in GREATEST:
+            for members in (*self.members, {2**32 - 1}, set(range(0, 999, 7)), {2**31, 5}):
+                frozen = FrozenRangeSet(members, bits=bits)
+                self.assertEqual((frozen, hash(frozen)), (frozenset(members), hash(frozenset(members))))
+                self.assertEqual({frozenset(members): 7}[frozen], 7)
+        large = frozenset([2**61 - 2, 2**61 - 1, 2**61, 2**62, 2**64 - 1])
+        self.assertEqual(hash(FrozenRangeSet(large)), hash(large))
+
+    def test_hashes_of_sets_that_are_too_large_for_a_frozenset(self):
+        for bits, top in GREATEST.items():
+            whole = ~FrozenRangeSet(bits=bits)
+            self.assertEqual(hash(whole), hash(FrozenRangeSet([Run(9, top), range(20)], bits=bits)))
+        part = FrozenRangeSet([range(5), Run(6, 2**40)])
+        self.assertEqual(hash(part), hash(FrozenRangeSet(range(2**40 + 1)) - RangeSet([5])))
+        self.assertNotEqual(hash(part), hash(FrozenRangeSet(range(2**40 + 1))))
+
+    def test_assertions_of_unittest(self):
+        self.assertEqual(RangeSet(range(3)), {0, 1, 2})
+        self.assertSetEqual(RangeSet(range(3)), {0, 1, 2})
+        self.assertCountEqual(RangeSet(range(3)), [2, 1, 0])
 
 
 def load_tests(loader, tests, pattern):

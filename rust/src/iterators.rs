@@ -21,6 +21,11 @@ impl<T: Integer> RangeSet<T> {
         }
     }
 
+    /// Does the same as [`runs`](Self::runs).
+    pub fn ranges(&self) -> Runs<'_, T> {
+        self.runs()
+    }
+
     /// Iterates over the gaps.
     ///
     /// ```
@@ -156,16 +161,6 @@ impl<T: Integer> RunsLeft<T> {
     }
 }
 
-/// Returns the gap that contains a value, or otherwise the last gap before it.
-fn prev_gap<T: Integer>(set: &RangeSet<T>, value: T) -> Option<RangeInclusive<T>> {
-    let (block, is_run) = set.run_or_gap(value);
-    if is_run {
-        let before = block.start().predecessor()?;
-        return Some(set.run_or_gap(before).0);
-    }
-    Some(block)
-}
-
 /// Iterates over the runs of a set, from both ends. [`RangeSet::runs`] makes it.
 #[derive(Clone, Debug)]
 pub struct Runs<'a, T: Integer> {
@@ -215,7 +210,7 @@ impl<T: Integer> Iterator for Gaps<'_, T> {
 
 impl<T: Integer> DoubleEndedIterator for Gaps<'_, T> {
     fn next_back(&mut self) -> Option<RangeInclusive<T>> {
-        self.steps.next_back(|to| prev_gap(self.set, to))
+        self.steps.next_back(|to| self.set.prev_gap(to))
     }
 }
 

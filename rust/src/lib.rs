@@ -33,7 +33,8 @@
 //! not set, it asks `pkg-config`, and then looks in `out/lib` of the repository.
 //!
 //! It links the static library if it finds both. To choose, set `RANGE_SET_LINK` to `static` or to
-//! `shared`. A program must find the shared library when it starts, for example by
+//! `shared`. `cargo run` and `cargo test` find the shared library, also for a crate that depends on
+//! this one. A program that is started without cargo must find it, for example by
 //! `LD_LIBRARY_PATH`.
 //!
 //! # What stays your duty

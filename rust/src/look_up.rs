@@ -126,6 +126,73 @@ impl<T: Integer> RangeSet<T> {
         self.run_by(T::CALLS.run_before, value)
     }
 
+    /// Returns the run with the least members.
+    #[must_use]
+    pub fn first_run(&self) -> Option<RangeInclusive<T>> {
+        self.next_run(T::MIN)
+    }
+
+    /// Returns the run with the greatest members.
+    #[must_use]
+    pub fn last_run(&self) -> Option<RangeInclusive<T>> {
+        self.prev_run(T::MAX)
+    }
+
+    /// Returns the gap that contains `from`, or otherwise the first gap after it.
+    ///
+    /// ```
+    /// let set = range_set::RangeSet::<u32>::from_iter([1..=4, 8..=13]);
+    /// assert_eq!(set.next_gap(6), Some(5..=7));
+    /// assert_eq!(set.next_gap(8), Some(14..=u32::MAX));
+    /// assert_eq!((!&set).next_gap(14), None);
+    /// ```
+    #[must_use]
+    pub fn next_gap(&self, from: T) -> Option<RangeInclusive<T>> {
+        let (block, is_run) = self.run_or_gap(from);
+        if is_run {
+            self.gap_above(&block)
+        } else {
+            Some(block)
+        }
+    }
+
+    /// Returns the gap that contains `from`, or otherwise the last gap before it.
+    #[must_use]
+    pub fn prev_gap(&self, from: T) -> Option<RangeInclusive<T>> {
+        let (block, is_run) = self.run_or_gap(from);
+        if is_run {
+            self.gap_below(&block)
+        } else {
+            Some(block)
+        }
+    }
+
+    /// Returns the first gap that starts after a value.
+    ///
+    /// ```
+    /// let set = range_set::RangeSet::<u32>::from_iter([1..=4, 8..=13]);
+    /// assert_eq!(set.gap_after(6), Some(14..=u32::MAX));
+    /// assert_eq!(set.gap_after(14), None);
+    /// ```
+    #[must_use]
+    pub fn gap_after(&self, value: T) -> Option<RangeInclusive<T>> {
+        self.gap_above(&self.next_run(value)?)
+    }
+
+    /// Returns the last gap that ends before a value.
+    #[must_use]
+    pub fn gap_before(&self, value: T) -> Option<RangeInclusive<T>> {
+        self.gap_below(&self.prev_run(value)?)
+    }
+
+    fn gap_above(&self, run: &RangeInclusive<T>) -> Option<RangeInclusive<T>> {
+        run.end().successor().map(|value| self.run_or_gap(value).0)
+    }
+
+    fn gap_below(&self, run: &RangeInclusive<T>) -> Option<RangeInclusive<T>> {
+        run.start().predecessor().map(|value| self.run_or_gap(value).0)
+    }
+
     fn run_by(
         &self,
         call: extern "C" fn(&Handle, T, &mut Run<T>) -> bool,

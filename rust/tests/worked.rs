@@ -30,7 +30,7 @@ macro_rules! for_both {
 
 for_both! {
     text text_of_other_forms combinations assignments any_number a_set_beside_itself comparisons equal_sets_hash_alike changes
-    bounds look_ups searches iterators_from_both_ends members_from_both_ends many_runs
+    bounds look_ups searches gaps_beside_a_value iterators_from_both_ends members_from_both_ends many_runs
     ends_of_the_type made_from_values_and_ranges
 }
 
@@ -271,6 +271,37 @@ mod checks {
             (none.len(), none.first(), none.last(), none.nth(0)),
             (0, None, None, None)
         );
+    }
+
+    pub fn gaps_beside_a_value<T: Value>() {
+        let a = set::<T>(&[(1, 4), (8, 13)]);
+        let low = T::MIN..=T::MIN;
+        let middle = T::from(5)..=T::from(7);
+        let high = T::from(14)..=T::MAX;
+        for (value, next, prev, after, before) in [
+            (0, Some(&low), Some(&low), Some(&middle), None),
+            (3, Some(&middle), Some(&low), Some(&middle), Some(&low)),
+            (6, Some(&middle), Some(&middle), Some(&high), Some(&low)),
+            (13, Some(&high), Some(&middle), Some(&high), Some(&middle)),
+            (20, Some(&high), Some(&high), None, Some(&middle)),
+        ] {
+            let at = T::from(value);
+            assert_eq!(a.next_gap(at).as_ref(), next, "next_gap({value})");
+            assert_eq!(a.prev_gap(at).as_ref(), prev, "prev_gap({value})");
+            assert_eq!(a.gap_after(at).as_ref(), after, "gap_after({value})");
+            assert_eq!(a.gap_before(at).as_ref(), before, "gap_before({value})");
+        }
+        let (all, none) = (!RangeSet::<T>::new(), RangeSet::<T>::new());
+        for value in [T::MIN, T::from(7), T::MAX] {
+            assert_eq!((all.next_gap(value), all.prev_gap(value)), (None, None));
+            assert_eq!((all.gap_after(value), all.gap_before(value)), (None, None));
+            assert_eq!(none.next_gap(value), Some(T::MIN..=T::MAX));
+            assert_eq!((none.gap_after(value), none.gap_before(value)), (None, None));
+        }
+        assert_eq!((none.first_run(), none.last_run()), (None, None));
+        assert_eq!(a.first_run(), Some(T::from(1)..=T::from(4)));
+        assert_eq!(a.last_run(), Some(T::from(8)..=T::from(13)));
+        assert!(a.ranges().eq(a.runs()));
     }
 
     pub fn searches<T: Value>() {

@@ -71,6 +71,23 @@ template <class Set> static void takes_a_list_of_runs() {
     CHECK(a.empty());
 }
 
+template <class Set> static void takes_an_array_of_many_runs() {
+    using Number = decltype(Set::run::first);
+    std::vector<typename Set::run> runs;
+    for (Number i = 0; i < 1'000'003; ++i) {
+        Number place = static_cast<Number>(static_cast<std::uint64_t>(i) * 7919 % 1'000'003);
+        runs.emplace_back(4000 * place, 4000 * place + 1);
+    }
+    Set a = Set::from_runs(runs.data(), runs.size());
+    CHECK(a.run_count() == runs.size() && a.size() == 2 * runs.size() && a.last() == 4000u * 1'000'002u + 1);
+    CHECK(a.remove(4000 * 500'000) && a.insert(4000 * 500'000) && !a.insert(4000 * 500'000, 4000 * 500'000 + 1));
+    CHECK(a.remove(2, 4001) && a.run_count() == runs.size() - 1 && (a |= {4000, 4001}).run_count() == runs.size());
+    CHECK((a - a).empty() && (a & a) == a && (~a).run_count() == runs.size());
+    Set none = Set::from_runs(static_cast<typename Set::run *>(nullptr), 0);
+    CHECK(none.empty() && (Set::from_runs(runs.data(), 3).run_count() == 3));
+    CHECK(std::distance(a.ranges().begin(), a.ranges().end()) == 1'000'003);
+}
+
 template <class Set> static Set returned() {
     return {{1, 5}, {7, 7}};
 }
@@ -325,6 +342,24 @@ template <class Set> static void asks_about_values() {
     CHECK(*a.first() == 1 && *a.last() == 9);
 }
 
+template <class Set> static void asks_about_values_that_no_set_has() {
+    using Number = decltype(Set::run::first);
+    Set a{{0, 5}, {greatest<Number>, greatest<Number>}}, all = ~Set();
+    CHECK(!a.contains(-1) && !a.contains(-1ll) && !all.contains(short{-1}) && all.contains(greatest<Number>));
+    CHECK(!a.contains(-1, 3) && !a.contains(3, 15) && !all.contains(-3, -2) && !all.contains(-1, 0));
+    CHECK(a.contains(3, -1) && a.contains(-1, -2) && a.contains(greatest<Number>, -1));
+    CHECK(!a.is_disjoint(-1, 0) && !a.is_disjoint(-9, greatest<Number>) && all.is_disjoint(-9, -2));
+    CHECK(all.is_disjoint(3, -1) && all.is_disjoint(-1, -2) && a.is_disjoint(6, 7) && (a - 5).is_disjoint(5, 9));
+}
+
+static void asks_about_values_beyond_32_bits() {
+    range_set::u32_set a{{0, 5}, {greatest<std::uint32_t>, greatest<std::uint32_t>}};
+    CHECK(!a.contains(5'000'000'000) && !a.contains(1ull << 40) && !a.contains(greatest<std::uint32_t>, 1ll << 32));
+    CHECK(a.contains(1ull << 40, 3) && a.contains(1ull << 40, 1ll << 33) && !a.contains(1ull << 33, 1ll << 40));
+    CHECK(!a.is_disjoint(7, 1ll << 32) && a.is_disjoint(1ll << 32, 1ull << 40) && a.is_disjoint(1ull << 40, -1));
+    CHECK(!a.is_disjoint(-1, 1ll << 40) && a.is_disjoint(1ull << 40, 3));
+}
+
 template <class Set> static void counts() {
     Set a{{1, 5}, {9, 9}};
     CHECK(a.size() == 6 && a.len() == 6 && a.len(2, 9) == 5 && a.len({6, 8}) == 0 && a.len(9, 2) == 0 && !a.empty());
@@ -342,6 +377,11 @@ template <class Set> static void searches() {
     CHECK(a.run_after(1)->first == 4 && !a.run_after(9) && a.run_before(5)->last == 2 && !a.run_before(2));
     CHECK(a.first_gap(2, 2)->first == 6 && a.first_gap(7, 1)->first == 7 && !(~Set()).first_gap(0, 1));
     CHECK(a.first_gap(0, 4)->last == greatest<Number> && !a.first_gap(greatest<Number>, 2));
+    CHECK(a.first_run()->last == 2 && a.last_run()->first == 9 && !Set().first_run() && !Set().last_run());
+    CHECK(a.next_gap(0)->last == 0 && a.next_gap(4)->first == 6 && a.next_gap(9)->last == greatest<Number>);
+    CHECK(a.prev_gap(greatest<Number>)->first == 10 && a.prev_gap(5)->first == 3 && a.prev_gap(0)->last == 0);
+    CHECK(a.gap_after(0)->first == 3 && a.gap_after(3)->first == 6 && !a.gap_after(10) && a.gap_before(9)->last == 8);
+    CHECK(!a.gap_before(0) && !(~Set()).next_gap(7) && !(~Set()).prev_gap(7) && !Set().gap_after(7) && a.is_empty() == a.empty());
     typename Set::run stored[2];
     CHECK(a.runs_in({2, 9}, stored, 2) == 2 && text(stored[0]) == "2..=2" && text(stored[1]) == "4..=5");
     CHECK(a.runs_in({6, greatest<Number>}, stored, 2u) == 1 && text(stored[0]) == "9..=9" && text(stored[1]) == "4..=5");
@@ -384,7 +424,8 @@ template <class Set> static void takes_any_integer_type() {
     signed char small = 1;
     CHECK(a.insert(small) && a.insert(2u) && a.insert(3l) && a.insert(4ull) && a.insert(std::uint8_t{5}));
     CHECK(a.contains(1ll, short{5}) && a.erase(std::uint16_t{3}) && text(a) == "1..=2, 4..=5");
-    static_assert(noexcept(a.contains(2u)) && noexcept(a.next_run(std::uint8_t{2})) && !noexcept(a.contains(2)));
+    static_assert(noexcept(a.contains(2u)) && noexcept(a.next_run(std::uint8_t{2})) && !noexcept(a.next_run(2)));
+    static_assert(noexcept(a.contains(2)) && noexcept(a.contains(2, 3)) && noexcept(a.is_disjoint(2, 3)));
 }
 
 template <class Set> static void refuses_values_out_of_range() {
@@ -392,10 +433,11 @@ template <class Set> static void refuses_values_out_of_range() {
     Set a{{1, 5}};
     CHECK(throws<error>([&] { a.insert(-1); }) && throws<error>([&] { a.insert(6, -1ll); }));
     CHECK(throws<error>([&] { a.erase(-1); }) && throws<error>([&] { a.remove(short{-1}, 3); }));
-    CHECK(throws<error>([&] { a.contains(-1); }) && throws<error>([&] { a.insert({-1, 3}); }));
+    CHECK(throws<error>([&] { a.contains({-1, 3}); }) && throws<error>([&] { a.insert({-1, 3}); }));
     CHECK(throws<error>([&] { a |= -1; }) && throws<error>([&] { Set made{{-2, -1}}; }));
     CHECK(throws<error>([&] { a.rank(-1); }) && throws<error>([&] { a.nth(-1); }));
-    CHECK(throws<error>([&] { a.next_run(-1); }) && throws<error>([&] { a.first_gap(0, -1); }));
+    CHECK(throws<error>([&] { a.next_run(-1); }) && throws<error>([&] { a.next_gap(-1); }));
+    CHECK(throws<error>([&] { a.gap_after(-1); }) && throws<error>([&] { a.first_gap(0, -1); }));
     CHECK(throws<error>([&] { a.runs_in({0, 9}, nullptr, -1); }));
     std::vector<int> values{7, -1};
     CHECK(throws<error>([&] { Set made(values); }) && throws<error>([&] { a = Set(values); }));
@@ -431,6 +473,7 @@ template <class Set> static void both_widths() {
     starts_empty<Set>();
     takes_a_list_of_runs<Set>();
     takes_a_list_wherever_a_set_is_expected<Set>();
+    takes_an_array_of_many_runs<Set>();
     takes_one_run<Set>();
     takes_runs_and_values_of_containers<Set>();
     copies_only_by_clone<Set>();
@@ -449,6 +492,7 @@ template <class Set> static void both_widths() {
     walks_runs_while_the_set_changes<Set>();
     has_iterators_of_the_standard<Set>();
     asks_about_values<Set>();
+    asks_about_values_that_no_set_has<Set>();
     counts<Set>();
     searches<Set>();
     compares<Set>();
@@ -465,6 +509,7 @@ int main() {
     both_widths<range_set::u32_set>();
     takes_sets_of_the_other_width();
     refuses_what_32_bits_cannot_hold();
+    asks_about_values_beyond_32_bits();
     counts_all_64_bit_values();
     has_runs_that_are_values();
     std::printf("the class answers as the calls do\n");

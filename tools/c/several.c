@@ -82,6 +82,23 @@ static void combined_without_memory(set_t *a, table *ta) {
     same(a, ta);
 }
 
+/* Each call in place on a set that has members and is its own operand. */
+static void changed_by_itself(set_t *a, table *ta) {
+    for (size_t kind = 0; kind < sizeof changes / sizeof *changes; kind++) {
+        filled(a, ta, STEPS / 4);
+        compared_with(a, ta, a, ta);
+        table next = *ta;
+        for (size_t place = 0; place < TABLE; place++) {
+            next.has[place] = changes[kind].has(ta->has[place], ta->has[place]);
+        }
+        long before = asked;
+        uint32_t answer = told(changes[kind].call(a, a), before);
+        CHECK(answer == (memcmp(&next, ta, sizeof next) ? RSB_CHANGED : RSB_UNCHANGED));
+        *ta = next;
+        compared_with(a, ta, a, ta);
+    }
+}
+
 /* A complement of a set in its own place, twice. */
 static void complemented_in_place(set_t *a, table *ta) {
     long before = asked;
@@ -245,6 +262,8 @@ static long round_of(unsigned long long start, long refused) {
         combined_without_memory(&sets[i], &bits[i]);
         compared_with(&sets[i], &bits[i], &sets[i], &bits[i]);
         filled(&sets[i], &bits[i], drawn(STEPS / 2));
+        compared_with(&sets[i], &bits[i], &sets[i], &bits[i]);
+        changed_by_itself(&sets[i], &bits[i]);
         complemented_in_place(&sets[i], &bits[i]);
     }
     made_of_some(sets, bits, SETS);
@@ -254,6 +273,24 @@ static long round_of(unsigned long long start, long refused) {
     }
     CHECK(held == 0);
     return asked;
+}
+
+/* Rows for one set that is not empty, and for lists of one handle. */
+static void one_by_itself(void) {
+    set_t a = RSB_EMPTY, out = RSB_EMPTY;
+    const set_t *const same_handle[] = {&a, &a, &a};
+    CHECK(CALL(insert_range)(&a, 5, 9) == RSB_CHANGED && CALL(insert)(&a, GREATEST) == RSB_CHANGED);
+    CHECK(CALL(equal)(&a, &a) && CALL(order)(&a, &a) == 0 && CALL(is_subset)(&a, &a) && !CALL(is_disjoint)(&a, &a));
+    CHECK(CALL(union_of)(&out, same_handle, 3) == RSB_CHANGED && CALL(equal)(&out, &a));
+    CHECK(CALL(intersection_of)(&out, same_handle, 3) == RSB_CHANGED && CALL(equal)(&out, &a));
+    CHECK(CALL(symmetric_difference_of)(&out, same_handle, 3) == RSB_CHANGED && CALL(equal)(&out, &a));
+    CHECK(CALL(symmetric_difference_of)(&out, same_handle, 2) == RSB_CHANGED && CALL(is_empty)(&out));
+    CHECK(CALL(at_least)(&out, same_handle, 3, 3) == RSB_CHANGED && CALL(equal)(&out, &a));
+    CHECK(CALL(at_least)(&out, same_handle, 2, 3) == RSB_CHANGED && CALL(is_empty)(&out));
+    CHECK(CALL(union_of)(&a, same_handle, 3) == RSB_CHANGED && CALL(run_count)(&a) == 2);
+    CHECK(CALL(at_least)(&a, same_handle, 1, 2) == RSB_CHANGED && CALL(is_empty)(&a) && CALL(is_disjoint)(&a, &a));
+    CALL(free)(&a);
+    CALL(free)(&out);
 }
 
 /* A list that begins as zeros, and with nothing in it. */
@@ -279,6 +316,7 @@ int main(void) {
         }
     }
     CHECK(refusals > 0 && passed_on > 0);
+    one_by_itself();
     nothing_listed();
     printf("u%d: calls on handles that are the same and on many sets agree, %llu allocations refused\n", WIDTH, refusals);
     return 0;

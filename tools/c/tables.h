@@ -204,6 +204,89 @@ static void beside(const set_t *set, const table *bits, size_t place) {
     found(CALL(run_before)(set, at(place), &run), run, bits, before);
 }
 
+/* Stores the gap that has a place, or otherwise the first after it. The last one reaches to the greatest value. */
+static bool gap_from_place(const table *bits, size_t place, run_t *gap) {
+    while (place < TABLE && bits->has[place]) {
+        place++;
+    }
+    if (place == TABLE && at(TABLE - 1) == GREATEST) {
+        return false;
+    }
+    size_t first = place, last = place;
+    while (first > 0 && !bits->has[first - 1]) {
+        first--;
+    }
+    while (last < TABLE && !bits->has[last]) {
+        last++;
+    }
+    *gap = (run_t){first > 0 ? at(first) : 0, last < TABLE ? at(last - 1) : GREATEST};
+    return true;
+}
+
+/* Stores the gap that has a place, or otherwise the last before it. The first one reaches to 0. */
+static bool gap_to_place(const table *bits, size_t place, run_t *gap) {
+    for (size_t past = place + 1; past > 0; past--) {
+        if (!bits->has[past - 1]) {
+            return gap_from_place(bits, past - 1, gap);
+        }
+    }
+    if (base == 0) {
+        return false;
+    }
+    *gap = (run_t){0, base - 1};
+    return true;
+}
+
+/* A call found a gap, or none. */
+static void found_gap(bool is, run_t gap, bool wanted, run_t wanted_gap) {
+    CHECK(is == wanted);
+    CHECK(gap.first == wanted_gap.first && gap.last == wanted_gap.last);
+}
+
+/* The gaps next to a place. */
+static void gaps_beside(const set_t *set, const table *bits, size_t place) {
+    const run_t none = {3, 2};
+    size_t next = place, past = place + 1;
+    while (next < TABLE && !bits->has[next]) {
+        next++;
+    }
+    while (past > 0 && !bits->has[past - 1]) {
+        past--;
+    }
+    run_t gap = none, wanted = none;
+    bool is = gap_from_place(bits, place, &wanted);
+    found_gap(CALL(next_gap)(set, at(place), &gap), gap, is, wanted);
+    gap = wanted = none;
+    is = gap_to_place(bits, place, &wanted);
+    found_gap(CALL(prev_gap)(set, at(place), &gap), gap, is, wanted);
+    gap = wanted = none;
+    is = next < TABLE && gap_from_place(bits, next, &wanted);
+    found_gap(CALL(gap_after)(set, at(place), &gap), gap, is, wanted);
+    gap = wanted = none;
+    is = past > 0 && gap_to_place(bits, past - 1, &wanted);
+    found_gap(CALL(gap_before)(set, at(place), &gap), gap, is, wanted);
+}
+
+/* A walk over the gaps, and one back. With the runs, the gaps have each value once. */
+static void walked_over_gaps(const set_t *set, unsigned long long runs) {
+    run_t gap = {3, 2};
+    unsigned long long steps = 0, inner = runs > 0 ? runs - 1 : 0;
+    unsigned long long wanted = runs == 0 ? 1 : inner + !CALL(contains)(set, 0) + !CALL(contains)(set, GREATEST);
+    number past = 0;
+    for (bool more = CALL(next_gap)(set, 0, &gap); more; more = CALL(gap_after)(set, gap.last, &gap)) {
+        CHECK(gap.first <= gap.last && CALL(is_disjoint_range)(set, gap.first, gap.last));
+        CHECK(gap.first == past || CALL(contains_range)(set, past, gap.first - 1));
+        past = gap.last + 1;
+        steps++;
+    }
+    CHECK(steps == wanted);
+    for (bool more = CALL(prev_gap)(set, GREATEST, &gap); more; more = CALL(gap_before)(set, gap.first, &gap)) {
+        CHECK(gap.first <= gap.last && CALL(is_disjoint_range)(set, gap.first, gap.last));
+        steps--;
+    }
+    CHECK(steps == 0);
+}
+
 /* The first gap from a place on that is long enough. The last one reaches to the greatest value. */
 static void gap_from(const set_t *set, const table *bits, size_t from, number len) {
     run_t gap = {3, 2};
@@ -314,6 +397,12 @@ static void same(const set_t *set, const table *bits) {
     CHECK(CALL(last)(set, &value) == (greatest < TABLE));
     CHECK(value == (greatest < TABLE ? at(greatest) : 7));
 
+    CHECK(CALL(is_empty)(set) == (members == 0));
+    run_t run = {3, 2};
+    found(CALL(first_run)(set, &run), run, bits, least);
+    run = (run_t){3, 2};
+    found(CALL(last_run)(set, &run), run, bits, greatest);
+
     for (size_t place = 0; place < TABLE; place++) {
         bool member = bits->has[place];
         size_t first = place, last = place;
@@ -331,12 +420,14 @@ static void same(const set_t *set, const table *bits) {
 
     walked(set, bits, runs);
     walked_by(set, bits, 1 + drawn(TABLE), runs);
+    walked_over_gaps(set, runs);
     ranked(set, bits);
     for (int i = 0; i < PLACES; i++) {
         size_t place = drawn(TABLE);
         windowed(set, bits, place, drawn(TABLE));
         stored(set, bits, place, drawn(TABLE), drawn(8));
         beside(set, bits, place);
+        gaps_beside(set, bits, place);
         gap_from(set, bits, place, (number)(1 + drawn(8)));
     }
     CHECK(asked == before);
