@@ -33,8 +33,8 @@ struct Reading<A: Allocator> {
 /// `Io` is returned if a read fails, or if there are 2^64 lines or more. It is also returned if the
 /// reader has not ended after 2^64 - 1 calls, counting interrupted ones.
 ///
-/// After `BadLine` the input is at its end. After `NoMemory` and `Io` it is past the bytes that
-/// were read, and these and their commands are lost.
+/// No clause states what an error leaves of the input. After `BadLine` it is at its end. After
+/// `NoMemory` and `Io` it is past the bytes that were read, and these and their commands are lost.
 pub fn read_commands<A: Allocator + Copy, R: Read>(
     alloc: A,
     input: &mut R,

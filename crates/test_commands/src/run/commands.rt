@@ -168,7 +168,7 @@ fn commands_run_over_other_element_types(rt: HostRuntime) -> Result<(), Fail> {
 }
 
 #[test]
-fn laws_of_replies_hold_at_other_element_types() {
+fn laws_of_replies_can_be_cited_at_other_element_types() {
     replies_exist::<u8>();
     replies_are_unique::<u8>();
     first_commands_first_replies::<u8>();

@@ -49,7 +49,7 @@ fn the_prelude_is_enough_for_sets_and_streams(rt: HostRuntime) -> Result<(), Fai
 
 // The prelude has the name of every law.
 #[test]
-fn the_prelude_has_the_laws() {
+fn laws_can_be_cited_from_the_prelude() {
     elements_stand_for_sets::<u8>();
     one_list_of_events::<u8>();
     some_list_of_events::<u8>();
