@@ -208,3 +208,14 @@ def exported(stem):
     texts = [path.read_text() for path in CRATES.glob(f"*/src/**/{stem}.rt")]
     lists = [names for text in texts for names in re.findall(r"^pub use ([^;]*);", text, re.M | re.S)]
     return {word for names in lists for word in WORD.findall(names)}
+
+
+def citation_faults():
+    """A line for each file that cites a crate which its own crate does not list in crates.txt."""
+    for path in sorted(CRATES.glob("*/*/**/*.*t")):
+        crate, part = path.relative_to(CRATES).parts[:2]
+        if part not in ("src", "specs", "proofs") or crate not in uses():
+            continue
+        cited = set(re.findall(r"\bRattle\.(\w+)\.", path.read_text())) & set(uses())
+        for other in sorted(cited - {crate, *uses()[crate]}):
+            yield f"{path.relative_to(ROOT)}: cites {other}, which crates.txt does not list for {crate}"
