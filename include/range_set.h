@@ -79,6 +79,9 @@ enum {
 #endif
 #endif
 
+#include "range_set/u128_value.h"
+#include "range_set/text.h"
+
 /* ---- Sets of uint64_t. */
 
 typedef struct rsb_u64 {
@@ -222,6 +225,12 @@ size_t rsb_u64_runs_in(const rsb_u64 *set, uint64_t first, uint64_t last, rsb_u6
    gap. */
 bool rsb_u64_first_gap(const rsb_u64 *set, uint64_t from, uint64_t len, rsb_u64_run *gap);
 
+/* Stores in `run` the first run that has at least `len` members at or after `from`, and returns
+   true. If that run starts before `from`, stores only its part at or after `from`. If there is no
+   such run, returns false, and `run` is unchanged. Takes a step for each run between `from` and the
+   run. In the set of what is free, this finds room. */
+bool rsb_u64_first_run_of(const rsb_u64 *set, uint64_t from, uint64_t len, rsb_u64_run *run);
+
 /* Set `out` to the union, the intersection, the difference (left without right) or the symmetric
    difference of two sets, to the complement of a set, or to a copy of it. Return RSB_CHANGED and
    free what `out` held before, or return RSB_NO_MEMORY and leave `out` unchanged. */
@@ -245,6 +254,11 @@ RSB_NODISCARD uint32_t rsb_u64_from_runs(rsb_u64 *out, const rsb_u64_run *runs, 
    an allocation failed. The call does without some blocks, and so may succeed after a failed
    allocation. Does not allocate if `length` is 0. */
 RSB_NODISCARD uint32_t rsb_u64_from_text(rsb_u64 *out, const char *text, size_t length);
+
+/* Does the same. If it returns RSB_BAD_TEXT, it also stores in `at` the position of the first byte
+   that no such text has there, counted from 0: `length` if the text ends too early, and a digit if
+   the number is too great with it. Otherwise, `at` is unchanged. */
+RSB_NODISCARD uint32_t rsb_u64_from_text_at(rsb_u64 *out, const char *text, size_t length, size_t *at);
 
 /* Writes the text of a set, such as 1..=5, 10..=20, to the start of `buffer`, with no zero byte at
    its end. rsb_u64_from_text reads it as the same set. Stores the length of the text in `length`,
@@ -292,11 +306,13 @@ void rsb_u64_sets_free(rsb_u64_sets *list);
 
 #include "range_set/u64_many.h"
 #include "range_set/u64_same.h"
+#include "range_set/u64_text.h"
 #include "range_set/u64_walk.h"
 
 /* ---- Sets of uint32_t: the same calls. A number of values is a plain uint64_t, and the greatest
    value is UINT32_MAX. */
 
+/* Written by tools/c/narrow: u32 */
 typedef struct rsb_u32 {
     void *rsb_private;
 } rsb_u32;
@@ -332,6 +348,7 @@ bool rsb_u32_run_after(const rsb_u32 *set, uint32_t value, rsb_u32_run *run);
 bool rsb_u32_run_before(const rsb_u32 *set, uint32_t value, rsb_u32_run *run);
 size_t rsb_u32_runs_in(const rsb_u32 *set, uint32_t first, uint32_t last, rsb_u32_run *runs, size_t count);
 bool rsb_u32_first_gap(const rsb_u32 *set, uint32_t from, uint64_t len, rsb_u32_run *gap);
+bool rsb_u32_first_run_of(const rsb_u32 *set, uint32_t from, uint64_t len, rsb_u32_run *run);
 RSB_NODISCARD uint32_t rsb_u32_union(rsb_u32 *out, const rsb_u32 *left, const rsb_u32 *right);
 RSB_NODISCARD uint32_t rsb_u32_intersection(rsb_u32 *out, const rsb_u32 *left, const rsb_u32 *right);
 RSB_NODISCARD uint32_t rsb_u32_difference(rsb_u32 *out, const rsb_u32 *left, const rsb_u32 *right);
@@ -340,6 +357,7 @@ RSB_NODISCARD uint32_t rsb_u32_complement(rsb_u32 *out, const rsb_u32 *set);
 RSB_NODISCARD uint32_t rsb_u32_clone(rsb_u32 *out, const rsb_u32 *set);
 RSB_NODISCARD uint32_t rsb_u32_from_runs(rsb_u32 *out, const rsb_u32_run *runs, size_t count);
 RSB_NODISCARD uint32_t rsb_u32_from_text(rsb_u32 *out, const char *text, size_t length);
+RSB_NODISCARD uint32_t rsb_u32_from_text_at(rsb_u32 *out, const char *text, size_t length, size_t *at);
 RSB_NODISCARD uint32_t rsb_u32_to_text(const rsb_u32 *set, char *buffer, size_t capacity, size_t *length);
 bool rsb_u32_equal(const rsb_u32 *left, const rsb_u32 *right);
 int32_t rsb_u32_order(const rsb_u32 *left, const rsb_u32 *right);
@@ -358,7 +376,81 @@ void rsb_u32_sets_free(rsb_u32_sets *list);
 
 #include "range_set/u32_many.h"
 #include "range_set/u32_same.h"
+#include "range_set/u32_text.h"
 #include "range_set/u32_walk.h"
+/* End */
+
+/* ---- Sets of integers of 128 bits, such as IPv6 addresses and UUIDs: the same calls. A value is
+   a struct of two words, also where a call takes a number of values (`n` and `len`). The greatest
+   value is RSB_U128_MAX. */
+
+/* Written by tools/c/narrow: u128 */
+typedef struct rsb_u128 {
+    void *rsb_private;
+} rsb_u128;
+
+typedef struct rsb_u128_run {
+    rsb_u128_value first;
+    rsb_u128_value last;
+} rsb_u128_run;
+RSB_NODISCARD uint32_t rsb_u128_insert_range(rsb_u128 *set, rsb_u128_value first, rsb_u128_value last);
+RSB_NODISCARD uint32_t rsb_u128_insert(rsb_u128 *set, rsb_u128_value value);
+RSB_NODISCARD uint32_t rsb_u128_remove(rsb_u128 *set, rsb_u128_value value);
+RSB_NODISCARD uint32_t rsb_u128_remove_range(rsb_u128 *set, rsb_u128_value first, rsb_u128_value last);
+RSB_NODISCARD uint32_t rsb_u128_union_with(rsb_u128 *set, const rsb_u128 *other);
+RSB_NODISCARD uint32_t rsb_u128_intersect_with(rsb_u128 *set, const rsb_u128 *other);
+RSB_NODISCARD uint32_t rsb_u128_subtract(rsb_u128 *set, const rsb_u128 *other);
+RSB_NODISCARD uint32_t rsb_u128_xor_with(rsb_u128 *set, const rsb_u128 *other);
+void rsb_u128_clear(rsb_u128 *set);
+void rsb_u128_free(rsb_u128 *set);
+bool rsb_u128_contains(const rsb_u128 *set, rsb_u128_value value);
+bool rsb_u128_contains_range(const rsb_u128 *set, rsb_u128_value first, rsb_u128_value last);
+bool rsb_u128_is_disjoint_range(const rsb_u128 *set, rsb_u128_value first, rsb_u128_value last);
+rsb_u128_count rsb_u128_len(const rsb_u128 *set);
+rsb_u128_count rsb_u128_len_in(const rsb_u128 *set, rsb_u128_value first, rsb_u128_value last);
+rsb_u128_count rsb_u128_rank(const rsb_u128 *set, rsb_u128_value value);
+bool rsb_u128_nth(const rsb_u128 *set, rsb_u128_value n, rsb_u128_value *value);
+size_t rsb_u128_run_count(const rsb_u128 *set);
+bool rsb_u128_first(const rsb_u128 *set, rsb_u128_value *value);
+bool rsb_u128_last(const rsb_u128 *set, rsb_u128_value *value);
+bool rsb_u128_run_or_gap(const rsb_u128 *set, rsb_u128_value value, rsb_u128_run *block);
+bool rsb_u128_next_run(const rsb_u128 *set, rsb_u128_value from, rsb_u128_run *run);
+bool rsb_u128_prev_run(const rsb_u128 *set, rsb_u128_value from, rsb_u128_run *run);
+bool rsb_u128_run_after(const rsb_u128 *set, rsb_u128_value value, rsb_u128_run *run);
+bool rsb_u128_run_before(const rsb_u128 *set, rsb_u128_value value, rsb_u128_run *run);
+size_t rsb_u128_runs_in(const rsb_u128 *set, rsb_u128_value first, rsb_u128_value last, rsb_u128_run *runs, size_t count);
+bool rsb_u128_first_gap(const rsb_u128 *set, rsb_u128_value from, rsb_u128_value len, rsb_u128_run *gap);
+bool rsb_u128_first_run_of(const rsb_u128 *set, rsb_u128_value from, rsb_u128_value len, rsb_u128_run *run);
+RSB_NODISCARD uint32_t rsb_u128_union(rsb_u128 *out, const rsb_u128 *left, const rsb_u128 *right);
+RSB_NODISCARD uint32_t rsb_u128_intersection(rsb_u128 *out, const rsb_u128 *left, const rsb_u128 *right);
+RSB_NODISCARD uint32_t rsb_u128_difference(rsb_u128 *out, const rsb_u128 *left, const rsb_u128 *right);
+RSB_NODISCARD uint32_t rsb_u128_symmetric_difference(rsb_u128 *out, const rsb_u128 *left, const rsb_u128 *right);
+RSB_NODISCARD uint32_t rsb_u128_complement(rsb_u128 *out, const rsb_u128 *set);
+RSB_NODISCARD uint32_t rsb_u128_clone(rsb_u128 *out, const rsb_u128 *set);
+RSB_NODISCARD uint32_t rsb_u128_from_runs(rsb_u128 *out, const rsb_u128_run *runs, size_t count);
+RSB_NODISCARD uint32_t rsb_u128_from_text(rsb_u128 *out, const char *text, size_t length);
+RSB_NODISCARD uint32_t rsb_u128_from_text_at(rsb_u128 *out, const char *text, size_t length, size_t *at);
+RSB_NODISCARD uint32_t rsb_u128_to_text(const rsb_u128 *set, char *buffer, size_t capacity, size_t *length);
+bool rsb_u128_equal(const rsb_u128 *left, const rsb_u128 *right);
+int32_t rsb_u128_order(const rsb_u128 *left, const rsb_u128 *right);
+bool rsb_u128_is_subset(const rsb_u128 *left, const rsb_u128 *right);
+bool rsb_u128_is_disjoint(const rsb_u128 *left, const rsb_u128 *right);
+
+typedef struct rsb_u128_sets {
+    void *rsb_private;
+} rsb_u128_sets;
+RSB_NODISCARD uint32_t rsb_u128_sets_add(rsb_u128_sets *list, const rsb_u128 *set);
+RSB_NODISCARD uint32_t rsb_u128_sets_union(rsb_u128 *out, const rsb_u128_sets *list);
+RSB_NODISCARD uint32_t rsb_u128_sets_intersection(rsb_u128 *out, const rsb_u128_sets *list);
+RSB_NODISCARD uint32_t rsb_u128_sets_symmetric_difference(rsb_u128 *out, const rsb_u128_sets *list);
+RSB_NODISCARD uint32_t rsb_u128_sets_at_least(rsb_u128 *out, const rsb_u128_sets *list, size_t k);
+void rsb_u128_sets_free(rsb_u128_sets *list);
+
+#include "range_set/u128_many.h"
+#include "range_set/u128_same.h"
+#include "range_set/u128_text.h"
+#include "range_set/u128_walk.h"
+/* End */
 
 #ifdef __cplusplus
 }

@@ -47,10 +47,10 @@ static void gathered(set_t *out, table *made) {
     same(out, made);
 }
 
-enum { LONGEST = TABLE * 48 };
+enum { LONGEST = TABLE * 96 };
 
-/* Writes the text of a table, and returns its length. */
-static size_t spelled(char *text, const table *bits) {
+/* Writes the text of a table, and returns its length. If `brief`, a single value is one number. */
+static size_t spelled(char *text, const table *bits, bool brief) {
     size_t length = 0;
     for (size_t place = 0; place < TABLE; place++) {
         size_t last = place;
@@ -58,18 +58,48 @@ static size_t spelled(char *text, const table *bits) {
             last++;
         }
         if (bits->has[place]) {
-            length += (size_t)snprintf(text + length, LONGEST - length, "%s%llu..=%llu", length > 0 ? ", " : "",
-                (unsigned long long)at(place), (unsigned long long)at(last));
+            length += (size_t)sprintf(text + length, "%s", length > 0 ? ", " : "");
+            length += write_number(text + length, at(place));
+        }
+        if (bits->has[place] && !(brief && last == place)) {
+            length += (size_t)sprintf(text + length, "..=");
+            length += write_number(text + length, at(last));
         }
         place = last;
     }
     return length;
 }
 
+/* The text with single values as numbers, into a buffer that is too short for it, and into one that is just long enough. */
+static void told_by_short_text(const set_t *set, const table *bits) {
+    static char wanted[LONGEST], text[LONGEST];
+    size_t length = spelled(wanted, bits, true), found = 7;
+    long before = asked;
+    memset(text, '*', sizeof text);
+    if (length > 0) {
+        CHECK(CALL(to_short_text)(set, length > 1 ? text : NULL, length - 1, &found) == RSB_NO_ROOM && found == length);
+        for (size_t i = 0; i < sizeof text; i++) {
+            CHECK(text[i] == '*');
+        }
+    }
+    found = 7;
+    CHECK(CALL(to_short_text)(set, length > 0 ? text : NULL, length, &found) == RSB_CHANGED && found == length);
+    CHECK(asked == before && !memcmp(text, wanted, length));
+    for (size_t i = length; i < sizeof text; i++) {
+        CHECK(text[i] == '*');
+    }
+    set_t again = RSB_EMPTY;
+    before = asked;
+    if (told(CALL(from_text)(&again, wanted, length), before) == RSB_CHANGED) {
+        same(&again, bits);
+    }
+    CALL(free)(&again);
+}
+
 /* The text of a set, into a buffer that is too short for it, and into one that is just long enough. `out` is then read from it. */
 static void told_by_text(set_t *out, table *made, const set_t *set, const table *bits) {
     static char wanted[LONGEST], text[LONGEST];
-    size_t length = spelled(wanted, bits), found = 7;
+    size_t length = spelled(wanted, bits, false), found = 7;
     memset(text, '*', sizeof text);
     if (length > 0) {
         long before = asked;
@@ -97,13 +127,23 @@ static void told_by_text(set_t *out, table *made, const set_t *set, const table 
     same(out, made);
 }
 
-/* Text that does not list ranges leaves the set as it was. */
+/* Text that does not list ranges leaves the set as it was, and is reported with the place where it goes wrong. */
 static void told_by_no_text(set_t *out, const table *made) {
-    static const char *const texts[] = {"1..=", "1..2", "1,", ",", "x", "-1", "1 2", "18446744073709551616", "\xff", "1..=2\xc3"};
-    for (size_t i = 0; i < sizeof texts / sizeof *texts; i++) {
+    static const struct {
+        const char *text;
+        size_t at;
+    } rows[] = {{"1..=", 4}, {"1..2", 3}, {"1,", 2}, {",", 0}, {"x", 0}, {"1 2", 2}, {"\xff", 0}, {"1..=2\xc3", 5}, {"1,,2", 2},
+        {"3, 4x, \xff", 4}, {"--1", 1}, {"+", 1}, {" 1 . 2", 4}, {"1..= ,", 5}};
+    for (size_t i = 0; i < sizeof rows / sizeof *rows; i++) {
+        size_t place = 7;
         long before = asked;
-        uint32_t answer = CALL(from_text)(out, texts[i], strlen(texts[i]));
+        uint32_t answer = CALL(from_text)(out, rows[i].text, strlen(rows[i].text));
         CHECK(answer == (refused_at > before && refused_at <= asked ? RSB_NO_MEMORY : RSB_BAD_TEXT));
+        same(out, made);
+        before = asked;
+        answer = CALL(from_text_at)(out, rows[i].text, strlen(rows[i].text), &place);
+        CHECK(answer == (refused_at > before && refused_at <= asked ? RSB_NO_MEMORY : RSB_BAD_TEXT));
+        CHECK(place == (answer == RSB_BAD_TEXT ? rows[i].at : 7));
         same(out, made);
     }
 }
@@ -113,7 +153,7 @@ static long round_of(unsigned long long start, long refused) {
     seed = start;
     refused_at = refused;
     asked = 0;
-    base = drawn(2) ? GREATEST - (TABLE - 1) : (number)drawn(1000);
+    base = drawn_base();
     set_t a = RSB_EMPTY, b = RSB_EMPTY, c = RSB_EMPTY, d = RSB_EMPTY;
     table ta = {{false}}, tb = {{false}}, tc = {{false}}, td = {{false}};
     same(&a, &ta);
@@ -138,6 +178,7 @@ static long round_of(unsigned long long start, long refused) {
     changed_by(&d, &td, &c, &tc);
     gathered(&d, &td);
     told_by_text(&d, &td, &b, &tb);
+    told_by_short_text(&b, &tb);
     told_by_no_text(&d, &td);
     CALL(free)(&d);
     complemented(&d, &c, &b, &tb);
@@ -161,17 +202,17 @@ static long round_of(unsigned long long start, long refused) {
 static void walked_to_the_ends(const set_t *set, size_t runs) {
     run_t run = {3, 2};
     size_t steps = 0;
-    for (bool more = CALL(next_run)(set, 0, &run); more; more = CALL(run_after)(set, run.last, &run)) {
+    for (bool more = CALL(next_run)(set, LEAST, &run); more; more = CALL(run_after)(set, run.last, &run)) {
         steps++;
     }
     CHECK(steps == runs && run.last == GREATEST);
     for (bool more = CALL(prev_run)(set, GREATEST, &run); more; more = CALL(run_before)(set, run.first, &run)) {
         steps--;
     }
-    CHECK(steps == 0 && run.first == 0);
+    CHECK(steps == 0 && run.first == LEAST);
     run_t block[4] = {{3, 2}, {3, 2}, {3, 2}, {3, 2}};
-    CHECK(CALL(runs_in)(set, 0, GREATEST, block, 3) == runs);
-    CHECK(block[0].first == 0 && block[runs - 1].last == GREATEST && block[runs].first == 3 && block[runs].last == 2);
+    CHECK(CALL(runs_in)(set, LEAST, GREATEST, block, 3) == runs);
+    CHECK(block[0].first == LEAST && block[runs - 1].last == GREATEST && block[runs].first == 3 && block[runs].last == 2);
 }
 
 /* Runs that cross the bounds, arrays that are full or empty, and the null set. */
@@ -222,29 +263,28 @@ static void whole(void) {
     run_t run = {3, 2};
     number value = 7;
     CHECK(CALL(complement)(&all, &none) == RSB_CHANGED);
-    CHECK(CALL(next_run)(&all, GREATEST, &run) && run.first == 0 && run.last == GREATEST);
-    CHECK(CALL(prev_run)(&all, 0, &run) && run.first == 0 && run.last == GREATEST);
+    CHECK(CALL(next_run)(&all, GREATEST, &run) && run.first == LEAST && run.last == GREATEST);
+    CHECK(CALL(prev_run)(&all, 0, &run) && run.first == LEAST && run.last == GREATEST);
     CHECK(!CALL(run_after)(&all, 0, &run) && !CALL(run_before)(&all, GREATEST, &run));
     CHECK(CALL(run_count)(&all) == 1);
     walked_to_the_ends(&all, 1);
-#if WIDTH == 64
-    rsb_u64_count count = rsb_u64_len(&all), within = rsb_u64_len_in(&all, 0, GREATEST);
-    CHECK(count.low == 0 && count.high == 1 && within.low == 0 && within.high == 1);
-#else
-    CHECK(rsb_u32_len(&all) == (uint64_t)1 << 32 && rsb_u32_len_in(&all, 0, GREATEST) == (uint64_t)1 << 32);
-#endif
-    CHECK(counted(CALL(rank)(&all, GREATEST)) == GREATEST);
-    CHECK(CALL(nth)(&all, GREATEST, &value) && value == GREATEST);
-    CHECK(CALL(contains_range)(&all, 0, GREATEST) && !CALL(is_disjoint_range)(&all, 0, GREATEST));
-    CHECK(!CALL(contains_range)(&none, 0, GREATEST) && CALL(is_disjoint_range)(&none, 0, GREATEST));
-    CHECK(!CALL(first_gap)(&all, 0, 0, &run));
+    CHECK(counts_all(CALL(len)(&all)) && counts_all(CALL(len_in)(&all, LEAST, GREATEST)));
+    CHECK(counted(CALL(rank)(&all, GREATEST)) == (plain)GREATEST - (plain)LEAST);
+    CHECK(CALL(nth)(&all, (plain)GREATEST - (plain)LEAST, &value) && value == GREATEST);
+    CHECK(CALL(nth)(&all, 0, &value) && value == LEAST);
+    CHECK(CALL(contains_range)(&all, LEAST, GREATEST) && !CALL(is_disjoint_range)(&all, LEAST, GREATEST));
+    CHECK(!CALL(contains_range)(&none, LEAST, GREATEST) && CALL(is_disjoint_range)(&none, LEAST, GREATEST));
+    CHECK(!CALL(first_gap)(&all, LEAST, 0, &run));
+    CHECK(CALL(first_run_of)(&all, LEAST, ~(plain)0, &run) && run.first == LEAST && run.last == GREATEST);
+    CHECK(CALL(first_run_of)(&all, GREATEST, 1, &run) && run.first == GREATEST && run.last == GREATEST);
+    CHECK(!CALL(first_run_of)(&all, GREATEST, 2, &run) && !CALL(first_run_of)(&none, LEAST, 0, &run));
     CHECK(CALL(first_gap)(&none, 5, 0, &run) && run.first == 5 && run.last == GREATEST);
     CHECK(CALL(insert)(&all, 5) == RSB_UNCHANGED);
     CHECK(CALL(remove)(&all, GREATEST) == RSB_CHANGED);
     CHECK(!CALL(next_run)(&all, GREATEST, &run) && run.last == GREATEST);
-    CHECK(CALL(run_or_gap)(&none, 5, &run) == false && run.first == 0 && run.last == GREATEST);
+    CHECK(CALL(run_or_gap)(&none, 5, &run) == false && run.first == LEAST && run.last == GREATEST);
     CHECK(CALL(insert)(&all, GREATEST) == RSB_CHANGED);
-    CHECK(CALL(remove_range)(&all, 1, GREATEST - 1) == RSB_CHANGED);
+    CHECK(CALL(remove_range)(&all, LEAST + 1, GREATEST - 1) == RSB_CHANGED);
     walked_to_the_ends(&all, 2);
     CALL(free)(&all);
     CALL(free)(&none);
@@ -279,21 +319,28 @@ static void made_of_nothing(void) {
     CALL(free)(&some);
 }
 
-/* What text may list: blanks, signs, ranges in any order, and numbers up to the greatest. */
+/* What text may list: blanks, signs, ranges in any order, and numbers up to both ends of the type. */
 static void read_from_text(void) {
     static const char text[] = " 7 , 3 ..= 5,\t+4..=2\n,1..=4";
+    char least[48], greatest[48];
+    size_t length = write_number(greatest, GREATEST), place = 7;
     set_t some = RSB_EMPTY;
     run_t run = {3, 2};
-    CHECK(CALL(from_text)(&some, text, sizeof text - 1) == RSB_CHANGED && CALL(run_count)(&some) == 2);
-    CHECK(CALL(next_run)(&some, 0, &run) && run.first == 1 && run.last == 5);
+    CHECK(CALL(from_text_at)(&some, text, sizeof text - 1, &place) == RSB_CHANGED && place == 7);
+    CHECK(CALL(run_count)(&some) == 2);
+    CHECK(CALL(next_run)(&some, LEAST, &run) && run.first == 1 && run.last == 5);
     CHECK(CALL(run_after)(&some, 5, &run) && run.first == 7 && run.last == 7);
-#if WIDTH == 64
-    CHECK(CALL(from_text)(&some, "18446744073709551615", 20) == RSB_CHANGED && CALL(contains)(&some, GREATEST));
-#else
-    CHECK(CALL(from_text)(&some, "4294967295", 10) == RSB_CHANGED && CALL(contains)(&some, GREATEST));
-    CHECK(CALL(from_text)(&some, "4294967296", 10) == RSB_BAD_TEXT && CALL(contains)(&some, GREATEST));
-#endif
+    CHECK(CALL(from_text)(&some, greatest, length) == RSB_CHANGED && CALL(contains)(&some, GREATEST));
+    CHECK(counted(CALL(len)(&some)) == 1);
+    greatest[length - 1]++;
+    CHECK(CALL(from_text_at)(&some, greatest, length, &place) == RSB_BAD_TEXT && place == length - 1);
+    CHECK(counted(CALL(len)(&some)) == 1);
+    CHECK(CALL(from_text)(&some, least, write_number(least, LEAST)) == RSB_CHANGED && CALL(contains)(&some, LEAST));
+    CHECK(CALL(from_text)(&some, "-0", 2) == RSB_CHANGED && CALL(contains)(&some, 0) && counted(CALL(len)(&some)) == 1);
+    CHECK(CALL(from_text_at)(&some, "5, -1", 5, &place) == (SIGNED ? RSB_CHANGED : RSB_BAD_TEXT));
+    CHECK(SIGNED ? CALL(contains)(&some, (number)-1) : place == 4);
     CHECK(CALL(from_text)(&some, "", 0) == RSB_CHANGED && CALL(run_count)(&some) == 0);
+    CHECK(CALL(from_text)(&some, " \t\r\n", 4) == RSB_CHANGED && CALL(run_count)(&some) == 0);
     CHECK(CALL(from_text)(&some, "1..=5", 4) == RSB_BAD_TEXT && CALL(run_count)(&some) == 0);
     CALL(free)(&some);
 }
@@ -311,6 +358,6 @@ int main(void) {
     changed_by_nothing();
     made_of_nothing();
     read_from_text();
-    printf("u%d: each call agrees with its table, %llu allocations refused\n", WIDTH, refusals);
+    printf(SIGN "%d: each call agrees with its table, %llu allocations refused\n", WIDTH, refusals);
     return 0;
 }

@@ -1,27 +1,11 @@
 /* Sets of over a thousand and of over a million runs: from_runs, each call that changes a set, and each that reads one. The
- * runs are STEP * i to STEP * i + 1, so each answer is known.
+ * runs are LEAST + STEP * i to LEAST + STEP * i + 1, so each answer is known.
  *
- * It is compiled once for each width: -DWIDTH=64 or -DWIDTH=32. */
-#include "range_set.h"
+ * It is compiled once for each kind of number (kinds.h). */
+#include "kinds.h"
 
 #include <stdio.h>
 #include <stdlib.h>
-
-#if WIDTH == 64
-#define CALL(name) rsb_u64_##name
-typedef uint64_t number;
-typedef rsb_u64 set_t;
-typedef rsb_u64_run run_t;
-#define GREATEST UINT64_MAX
-#define COUNT(count) ((count).low)
-#else
-#define CALL(name) rsb_u32_##name
-typedef uint32_t number;
-typedef rsb_u32 set_t;
-typedef rsb_u32_run run_t;
-#define GREATEST UINT32_MAX
-#define COUNT(count) (count)
-#endif
 
 enum { STEP = 3000, MANY = 1200000 };
 
@@ -30,13 +14,13 @@ static size_t size;
 #define CHECK(claim)                                                                                      \
     do {                                                                                                  \
         if (!(claim)) {                                                                                   \
-            fprintf(stderr, "%s:%d: u%d, %zu runs: not so: %s\n", __FILE__, __LINE__, WIDTH, size, #claim); \
+            fprintf(stderr, "%s:%d: " SIGN "%d, %zu runs: not so: %s\n", __FILE__, __LINE__, WIDTH, size, #claim); \
             exit(1);                                                                                      \
         }                                                                                                 \
     } while (0)
 
 static number first_of(size_t place) {
-    return (number)place * STEP;
+    return (number)((plain)LEAST + (plain)place * STEP);
 }
 
 /* The runs, in an order that jumps about; each run that is even also comes as two values that touch. */
@@ -63,16 +47,16 @@ static void walked(const set_t *set, size_t place, size_t runs) {
     enum { BLOCK = 64 };
     run_t block[BLOCK];
     number next = first_of(place);
-    size_t stored, seen = 0;
-    do {
+    size_t stored = BLOCK, seen = 0;
+    while (stored == BLOCK) {
         stored = CALL(runs_in)(set, next, GREATEST, block, BLOCK);
         for (size_t i = 0; i < stored; i++) {
             CHECK(block[i].first == first_of(place) && block[i].last == first_of(place) + 1);
             place++;
             seen++;
         }
-        next = stored == BLOCK ? block[BLOCK - 1].last + 1 : 0;
-    } while (next > 0);
+        next = stored == BLOCK ? block[BLOCK - 1].last + 1 : next;
+    }
     CHECK(seen == runs);
 }
 
@@ -81,12 +65,12 @@ static void read(const set_t *set) {
     number value = 7;
     run_t run = {3, 2};
     number middle = first_of(size / 2), end = first_of(size - 1);
-    CHECK(CALL(run_count)(set) == size && COUNT(CALL(len)(set)) == 2 * size && !CALL(is_empty)(set));
-    CHECK(CALL(first)(set, &value) && value == 0 && CALL(last)(set, &value) && value == end + 1);
+    CHECK(CALL(run_count)(set) == size && counted(CALL(len)(set)) == 2 * size && !CALL(is_empty)(set));
+    CHECK(CALL(first)(set, &value) && value == LEAST && CALL(last)(set, &value) && value == end + 1);
     CHECK(CALL(contains)(set, middle) && CALL(contains)(set, end + 1) && !CALL(contains)(set, middle + 2));
     CHECK(CALL(contains_range)(set, end, end + 1) && !CALL(contains_range)(set, middle, middle + STEP));
-    CHECK(CALL(is_disjoint_range)(set, middle + 2, middle + STEP - 1) && !CALL(is_disjoint_range)(set, 2, end));
-    CHECK(COUNT(CALL(len_in)(set, 1, end)) == 2 * size - 2 && COUNT(CALL(rank)(set, end)) == 2 * size - 2);
+    CHECK(CALL(is_disjoint_range)(set, middle + 2, middle + STEP - 1) && !CALL(is_disjoint_range)(set, LEAST + 2, end));
+    CHECK(counted(CALL(len_in)(set, LEAST + 1, end)) == 2 * size - 2 && counted(CALL(rank)(set, end)) == 2 * size - 2);
     CHECK(CALL(nth)(set, 2 * size - 1, &value) && value == end + 1 && !CALL(nth)(set, 2 * size, &value));
     CHECK(CALL(run_or_gap)(set, middle, &run) && run.first == middle && run.last == middle + 1);
     CHECK(!CALL(run_or_gap)(set, middle + 5, &run) && run.first == middle + 2 && run.last == middle + STEP - 1);
@@ -94,8 +78,9 @@ static void read(const set_t *set) {
     CHECK(CALL(prev_run)(set, middle - 1, &run) && run.first == middle - STEP);
     CHECK(CALL(run_after)(set, middle, &run) && run.first == middle + STEP);
     CHECK(CALL(run_before)(set, middle, &run) && run.first == middle - STEP && !CALL(run_after)(set, end, &run));
-    CHECK(CALL(first_gap)(set, 0, STEP - 1, &run) && run.first == end + 2 && run.last == GREATEST);
-    CHECK(CALL(gap_after)(set, middle, &run) && run.first == middle + 2 && CALL(first_run)(set, &run) && run.first == 0);
+    CHECK(CALL(first_gap)(set, LEAST, STEP - 1, &run) && run.first == end + 2 && run.last == GREATEST);
+    CHECK(CALL(gap_after)(set, middle, &run) && run.first == middle + 2 && CALL(first_run)(set, &run) && run.first == LEAST);
+    CHECK(CALL(first_run_of)(set, middle + 1, 2, &run) && run.first == middle + STEP && !CALL(first_run_of)(set, LEAST, 3, &run));
     walked(set, 0, size);
     walked(set, size / 2, size - size / 2);
 }
@@ -144,7 +129,7 @@ static void combined(const set_t *set) {
     set_t low = RSB_EMPTY, high = RSB_EMPTY, out = RSB_EMPTY, back = RSB_EMPTY;
     number middle = first_of(size / 2);
     CHECK(CALL(clone)(&low, set) == RSB_CHANGED && CALL(remove_range)(&low, middle + 2, GREATEST) == RSB_CHANGED);
-    CHECK(CALL(clone)(&high, set) == RSB_CHANGED && CALL(remove_range)(&high, 0, middle - 1) == RSB_CHANGED);
+    CHECK(CALL(clone)(&high, set) == RSB_CHANGED && CALL(remove_range)(&high, LEAST, middle - 1) == RSB_CHANGED);
     CHECK(CALL(union)(&out, &low, &high) == RSB_CHANGED && CALL(equal)(&out, set));
     CHECK(CALL(intersection)(&out, &low, &high) == RSB_CHANGED && CALL(run_count)(&out) == 1);
     CHECK(CALL(contains_range)(&out, middle, middle + 1));
@@ -167,7 +152,8 @@ static void combined(const set_t *set) {
 static void written(const set_t *set) {
     set_t back = RSB_EMPTY;
     size_t length = 0, again = 0;
-    CHECK(CALL(to_text)(set, NULL, 0, &length) == RSB_NO_ROOM && length > 5 * size);
+    CHECK(CALL(to_short_text)(set, NULL, 0, &again) == RSB_NO_ROOM);
+    CHECK(CALL(to_text)(set, NULL, 0, &length) == RSB_NO_ROOM && length == again && length > 5 * size);
     char *text = malloc(length);
     CHECK(text != NULL && CALL(to_text)(set, text, length, &again) == RSB_CHANGED && again == length);
     CHECK(CALL(from_text)(&back, text, length) == RSB_CHANGED && CALL(equal)(&back, set));
@@ -199,6 +185,6 @@ int main(void) {
     tried(1001);
     tried(10007);
     tried(MANY);
-    printf("u%d: sets of up to %d runs answer as they should\n", WIDTH, MANY);
+    printf(SIGN "%d: sets of up to %d runs answer as they should\n", WIDTH, MANY);
     return 0;
 }

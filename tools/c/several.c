@@ -9,45 +9,51 @@ enum { ROUNDS = 100, MOST = 6 };
 /* ---- Exports. */
 
 #if WIDTH == 64
+typedef rsb_u64 export_t;
 #define REAL(name) __real_rsb_u64_##name
 #define WRAP(name) __wrap_rsb_u64_##name
-#else
+#elif WIDTH == 32
+typedef rsb_u32 export_t;
 #define REAL(name) __real_rsb_u32_##name
 #define WRAP(name) __wrap_rsb_u32_##name
+#else
+typedef rsb_u128 export_t;
+#define REAL(name) __real_rsb_u128_##name
+#define WRAP(name) __wrap_rsb_u128_##name
 #endif
 
 static unsigned long long passed_on;
 
 #define ON_TWO(result, name, first)                              \
-    result REAL(name)(first left, const set_t *right);           \
-    result WRAP(name)(first left, const set_t *right) {          \
+    result REAL(name)(first left, const export_t *right);           \
+    result WRAP(name)(first left, const export_t *right) {          \
         CHECK(left != right);                                    \
         passed_on++;                                             \
         return REAL(name)(left, right);                          \
     }
 
 #define ON_THREE(name)                                                            \
-    uint32_t REAL(name)(set_t * out, const set_t *left, const set_t *right);      \
-    uint32_t WRAP(name)(set_t * out, const set_t *left, const set_t *right) {     \
+    uint32_t REAL(name)(export_t * out, const export_t *left, const export_t *right);      \
+    uint32_t WRAP(name)(export_t * out, const export_t *left, const export_t *right) {     \
         CHECK(out != left && out != right && left != right);                      \
         passed_on++;                                                              \
         return REAL(name)(out, left, right);                                      \
     }
 
-ON_TWO(uint32_t, union_with, set_t *)
-ON_TWO(uint32_t, intersect_with, set_t *)
-ON_TWO(uint32_t, subtract, set_t *)
-ON_TWO(uint32_t, xor_with, set_t *)
-ON_TWO(uint32_t, clone, set_t *)
-ON_TWO(uint32_t, complement, set_t *)
+ON_TWO(uint32_t, union_with, export_t *)
+ON_TWO(uint32_t, intersect_with, export_t *)
+ON_TWO(uint32_t, subtract, export_t *)
+ON_TWO(uint32_t, xor_with, export_t *)
+ON_TWO(uint32_t, clone, export_t *)
+ON_TWO(uint32_t, complement, export_t *)
 ON_THREE(union)
 ON_THREE(intersection)
 ON_THREE(difference)
 ON_THREE(symmetric_difference)
-ON_TWO(bool, equal, const set_t *)
-ON_TWO(int32_t, order, const set_t *)
-ON_TWO(bool, is_subset, const set_t *)
-ON_TWO(bool, is_disjoint, const set_t *)
+ON_TWO(bool, equal, const export_t *)
+ON_TWO(int32_t, order, const export_t *)
+ON_TWO(bool, is_subset, const export_t *)
+ON_TWO(bool, is_disjoint, const export_t *)
 
 /* ---- Handles that are the same. */
 
@@ -153,7 +159,7 @@ static size_t depth(const table *const *bits, size_t count, size_t place) {
 
 /* `out` has each value of the type. It is then freed, since no table has a bit for each. */
 static void emptied(set_t *out, table *made) {
-    CHECK(CALL(contains_range)(out, 0, GREATEST));
+    CHECK(CALL(contains_range)(out, LEAST, GREATEST));
     CALL(free)(out);
     *made = (table){{false}};
 }
@@ -252,7 +258,7 @@ static long round_of(unsigned long long start, long refused) {
     seed = start;
     refused_at = refused;
     asked = 0;
-    base = drawn(2) ? GREATEST - (TABLE - 1) : (number)drawn(1000);
+    base = drawn_base();
     set_t sets[SETS] = {RSB_EMPTY, RSB_EMPTY, RSB_EMPTY};
     table bits[SETS] = {{{false}}, {{false}}, {{false}}};
     for (size_t i = 0; i < SETS; i++) {
@@ -300,9 +306,9 @@ static void nothing_listed(void) {
     set_t out = RSB_EMPTY;
     CHECK(CALL(insert)(&out, 7) == RSB_CHANGED);
     CHECK(CALL(sets_union)(&out, &list) == RSB_CHANGED && CALL(run_count)(&out) == 0);
-    CHECK(CALL(sets_intersection)(&out, &list) == RSB_CHANGED && CALL(contains_range)(&out, 0, GREATEST));
+    CHECK(CALL(sets_intersection)(&out, &list) == RSB_CHANGED && CALL(contains_range)(&out, LEAST, GREATEST));
     CHECK(CALL(sets_symmetric_difference)(&out, &list) == RSB_CHANGED && CALL(run_count)(&out) == 0);
-    CHECK(CALL(sets_at_least)(&out, &list, 0) == RSB_CHANGED && CALL(contains_range)(&out, 0, GREATEST));
+    CHECK(CALL(sets_at_least)(&out, &list, 0) == RSB_CHANGED && CALL(contains_range)(&out, LEAST, GREATEST));
     CHECK(CALL(sets_at_least)(&out, &list, 1) == RSB_CHANGED && CALL(run_count)(&out) == 0);
     CALL(sets_free)(&list);
     CALL(free)(&out);
@@ -318,6 +324,6 @@ int main(void) {
     CHECK(refusals > 0 && passed_on > 0);
     one_by_itself();
     nothing_listed();
-    printf("u%d: calls on handles that are the same and on many sets agree, %llu allocations refused\n", WIDTH, refusals);
+    printf(SIGN "%d: calls on handles that are the same and on many sets agree, %llu allocations refused\n", WIDTH, refusals);
     return 0;
 }

@@ -1,36 +1,18 @@
 /* What the tests of the calls share: allocations that are refused, and tables of bits beside sets. Each allocation of a round
  * is refused in turn.
  *
- * A test is compiled once for each width: -DWIDTH=64 or -DWIDTH=32, with -Wl,--wrap=malloc -Wl,--wrap=realloc
- * -Wl,--wrap=free. */
+ * A test is compiled once for each kind of number (kinds.h), with -Wl,--wrap=malloc -Wl,--wrap=realloc -Wl,--wrap=free. */
 #ifndef TABLES_H
 #define TABLES_H
 
-#include "range_set.h"
+#include "kinds.h"
 
 #include <stdio.h>
 #include <stdlib.h>
 #include <string.h>
 
-#if WIDTH == 64
-#define CALL(name) rsb_u64_##name
-typedef uint64_t number;
-typedef rsb_u64 set_t;
-typedef rsb_u64_sets list_t;
-typedef rsb_u64_run run_t;
-typedef rsb_u64_count count_t;
-#define GREATEST UINT64_MAX
-#else
-#define CALL(name) rsb_u32_##name
-typedef uint32_t number;
-typedef rsb_u32 set_t;
-typedef rsb_u32_sets list_t;
-typedef rsb_u32_run run_t;
-typedef uint64_t count_t;
-#define GREATEST UINT32_MAX
-#endif
-
-/* The values from BASE on are looked at, TABLE of them; half of the rounds end at the greatest value of the type. */
+/* The values from BASE on are looked at, TABLE of them. Many rounds begin at the least value of the type, or end at the
+ * greatest one. */
 enum { TABLE = 96, STEPS = 60, PLACES = 4 };
 
 static number base;
@@ -39,7 +21,7 @@ static unsigned long long refusals;
 #define CHECK(claim)                                                                                    \
     do {                                                                                                \
         if (!(claim)) {                                                                                 \
-            fprintf(stderr, "%s:%d: u%d, allocation %ld refused: not so: %s\n", __FILE__, __LINE__,     \
+            fprintf(stderr, "%s:%d: " SIGN "%d, allocation %ld refused: not so: %s\n", __FILE__, __LINE__, \
                 WIDTH, refused_at, #claim);                                                             \
             exit(1);                                                                                    \
         }                                                                                               \
@@ -109,6 +91,27 @@ static number at(size_t place) {
     return base + (number)place;
 }
 
+/* The place of a value that is not below BASE. */
+static size_t place_of(number value) {
+    plain place = (plain)value - (plain)base;
+    CHECK(value >= base && place < TABLE);
+    return (size_t)place;
+}
+
+/* Where the table of a round begins. */
+static number drawn_base(void) {
+    switch (drawn(4)) {
+    case 0:
+        return LEAST;
+    case 1:
+        return GREATEST - (TABLE - 1);
+    case 2:
+        return (number)drawn(1000);
+    default:
+        return LEAST + (number)(~(plain)0 / 2) - (number)drawn(TABLE);
+    }
+}
+
 /* -1, 0 or 1, as the ascending lists of members compare. */
 static int compared(const table *left, const table *right) {
     size_t a = 0, b = 0;
@@ -128,15 +131,6 @@ static int compared(const table *left, const table *right) {
         a++;
         b++;
     }
-}
-
-static unsigned long long counted(count_t count) {
-#if WIDTH == 64
-    CHECK(count.high == 0);
-    return count.low;
-#else
-    return count;
-#endif
 }
 
 /* What the values from one place to another have: none if the last place is below the first. */
@@ -219,21 +213,21 @@ static bool gap_from_place(const table *bits, size_t place, run_t *gap) {
     while (last < TABLE && !bits->has[last]) {
         last++;
     }
-    *gap = (run_t){first > 0 ? at(first) : 0, last < TABLE ? at(last - 1) : GREATEST};
+    *gap = (run_t){first > 0 ? at(first) : LEAST, last < TABLE ? at(last - 1) : GREATEST};
     return true;
 }
 
-/* Stores the gap that has a place, or otherwise the last before it. The first one reaches to 0. */
+/* Stores the gap that has a place, or otherwise the last before it. The first one reaches to the least value. */
 static bool gap_to_place(const table *bits, size_t place, run_t *gap) {
     for (size_t past = place + 1; past > 0; past--) {
         if (!bits->has[past - 1]) {
             return gap_from_place(bits, past - 1, gap);
         }
     }
-    if (base == 0) {
+    if (base == LEAST) {
         return false;
     }
-    *gap = (run_t){0, base - 1};
+    *gap = (run_t){LEAST, base - 1};
     return true;
 }
 
@@ -271,12 +265,12 @@ static void gaps_beside(const set_t *set, const table *bits, size_t place) {
 static void walked_over_gaps(const set_t *set, unsigned long long runs) {
     run_t gap = {3, 2};
     unsigned long long steps = 0, inner = runs > 0 ? runs - 1 : 0;
-    unsigned long long wanted = runs == 0 ? 1 : inner + !CALL(contains)(set, 0) + !CALL(contains)(set, GREATEST);
-    number past = 0;
-    for (bool more = CALL(next_gap)(set, 0, &gap); more; more = CALL(gap_after)(set, gap.last, &gap)) {
+    unsigned long long wanted = runs == 0 ? 1 : inner + !CALL(contains)(set, LEAST) + !CALL(contains)(set, GREATEST);
+    number past = LEAST;
+    for (bool more = CALL(next_gap)(set, LEAST, &gap); more; more = CALL(gap_after)(set, gap.last, &gap)) {
         CHECK(gap.first <= gap.last && CALL(is_disjoint_range)(set, gap.first, gap.last));
         CHECK(gap.first == past || CALL(contains_range)(set, past, gap.first - 1));
-        past = gap.last + 1;
+        past = gap.last < GREATEST ? gap.last + 1 : LEAST;
         steps++;
     }
     CHECK(steps == wanted);
@@ -288,7 +282,7 @@ static void walked_over_gaps(const set_t *set, unsigned long long runs) {
 }
 
 /* The first gap from a place on that is long enough. The last one reaches to the greatest value. */
-static void gap_from(const set_t *set, const table *bits, size_t from, number len) {
+static void gap_from(const set_t *set, const table *bits, size_t from, plain len) {
     run_t gap = {3, 2};
     bool is = CALL(first_gap)(set, at(from), len, &gap);
     for (size_t first = from, past;; first = past) {
@@ -303,8 +297,30 @@ static void gap_from(const set_t *set, const table *bits, size_t from, number le
             past++;
         }
         number last = past < TABLE ? at(past - 1) : GREATEST;
-        if (last - at(first) >= len - 1) {
+        if ((plain)last - (plain)at(first) >= len - 1) {
             CHECK(is && gap.first == at(first) && gap.last == last);
+            return;
+        }
+    }
+}
+
+/* The first run from a place on that is long enough. */
+static void run_from(const set_t *set, const table *bits, size_t from, plain len) {
+    run_t run = {3, 2};
+    bool is = CALL(first_run_of)(set, at(from), len, &run);
+    for (size_t first = from, past;; first = past) {
+        while (first < TABLE && !bits->has[first]) {
+            first++;
+        }
+        if (first == TABLE) {
+            CHECK(!is && run.first == 3 && run.last == 2);
+            return;
+        }
+        for (past = first; past < TABLE && bits->has[past];) {
+            past++;
+        }
+        if (past - first >= len) {
+            CHECK(is && run.first == at(first) && run.last == at(past - 1));
             return;
         }
     }
@@ -315,15 +331,17 @@ static void walked(const set_t *set, const table *bits, unsigned long long runs)
     table there = {{false}}, back = {{false}};
     run_t run = {3, 2};
     unsigned long long steps = 0;
-    for (bool more = CALL(next_run)(set, 0, &run); more; more = CALL(run_after)(set, run.last, &run)) {
-        CHECK(run.first >= base && run.last >= run.first && run.last - base < TABLE);
-        memset(there.has + (run.first - base), true, run.last - run.first + 1);
+    for (bool more = CALL(next_run)(set, LEAST, &run); more; more = CALL(run_after)(set, run.last, &run)) {
+        size_t first = place_of(run.first), last = place_of(run.last);
+        CHECK(first <= last);
+        memset(there.has + first, true, last - first + 1);
         steps++;
     }
     CHECK(steps == runs && !memcmp(&there, bits, sizeof there));
     for (bool more = CALL(prev_run)(set, GREATEST, &run); more; more = CALL(run_before)(set, run.first, &run)) {
-        CHECK(run.first >= base && run.last >= run.first && run.last - base < TABLE);
-        memset(back.has + (run.first - base), true, run.last - run.first + 1);
+        size_t first = place_of(run.first), last = place_of(run.last);
+        CHECK(first <= last);
+        memset(back.has + first, true, last - first + 1);
         steps--;
     }
     CHECK(steps == 0 && !memcmp(&back, bits, sizeof back));
@@ -358,17 +376,19 @@ static void walked_by(const set_t *set, const table *bits, size_t most, unsigned
     table there = {{false}};
     run_t block[TABLE];
     unsigned long long steps = 0;
-    number next = 0;
-    do {
+    number next = LEAST;
+    for (bool more = true; more;) {
         size_t count = CALL(runs_in)(set, next, GREATEST, block, most);
         CHECK(count <= most);
         for (size_t i = 0; i < count; i++) {
-            CHECK(block[i].first >= base && block[i].last >= block[i].first && block[i].last - base < TABLE);
-            memset(there.has + (block[i].first - base), true, block[i].last - block[i].first + 1);
+            size_t first = place_of(block[i].first), last = place_of(block[i].last);
+            CHECK(first <= last);
+            memset(there.has + first, true, last - first + 1);
         }
         steps += count;
-        next = count == most ? block[most - 1].last + 1 : 0;
-    } while (next > 0);
+        more = count == most && block[most - 1].last < GREATEST;
+        next = more ? block[most - 1].last + 1 : LEAST;
+    }
     CHECK(steps == runs && !memcmp(&there, bits, sizeof there));
 }
 
@@ -414,7 +434,7 @@ static void same(const set_t *set, const table *bits) {
         }
         run_t block = {3, 2};
         CHECK(CALL(run_or_gap)(set, at(place), &block) == member);
-        CHECK(block.first == (!member && first == 0 ? 0 : at(first)));
+        CHECK(block.first == (!member && first == 0 ? LEAST : at(first)));
         CHECK(block.last == (!member && last == TABLE - 1 ? GREATEST : at(last)));
     }
 
@@ -428,7 +448,8 @@ static void same(const set_t *set, const table *bits) {
         stored(set, bits, place, drawn(TABLE), drawn(8));
         beside(set, bits, place);
         gaps_beside(set, bits, place);
-        gap_from(set, bits, place, (number)(1 + drawn(8)));
+        gap_from(set, bits, place, (plain)(1 + drawn(8)));
+        run_from(set, bits, place, (plain)drawn(8));
     }
     CHECK(asked == before);
 }

@@ -1,6 +1,10 @@
 pub mod Answer
 pub mod NullableBox
 pub mod SetText
+pub mod U128Handle
+pub mod U128ListHandle
+pub mod U128Runs
+pub mod U128Values
 pub mod U32Handle
 pub mod U32ListHandle
 pub mod U32Runs

@@ -6,7 +6,7 @@ use Rattle.std.specs.declared.ops.RangeInclusive.{RangeInclusive}
 use Rattle.rsb_integer.specs.Rank.{intervals_of}
 use Rattle.rsb_integer.specs.Runs.{Interval, members, IsCanonicalIn}
 use Rattle.range_set_blaze.specs.Set.{IsSetOf}
-use Rattle.range_set_blaze.specs.Text.{Spells}
+use Rattle.range_set_blaze.specs.Text.{IsFirstUnexpected, Spells}
 
 -- The text of a run: its first and its last value in decimal, with `..=` between them.
 abbrev pub text_of_run : Interval → List ℕ
@@ -40,3 +40,9 @@ module _ (bits : ℕ) (text : List ℕ) where
   pub record IsUnread : Type 0 where
     pub no_list : (ranges : List (RangeInclusive ℕ)) → ¬ Lists ranges
     pub of_no_set : (runs : List Interval) → IsCanonicalIn (2 ^ bits) runs → text ≢ text_of runs
+
+  -- Whether the byte at this place is the first that no list of ranges has there. If the place is
+  -- the end of the text, the text ends too early.
+  abbrev pub IsUnexpectedAt : ℕ → Type 0
+  IsUnexpectedAt place =
+      IsFirstUnexpected (λ (value : ℕ). pos value) (FitsUnsignedBits bits) text place

@@ -5,6 +5,7 @@ mod arrays;
 mod changes;
 mod combinations;
 mod comparisons;
+mod first_fit;
 pub(crate) mod handle;
 mod in_place;
 mod kept;

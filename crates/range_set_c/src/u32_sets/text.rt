@@ -4,12 +4,13 @@
 ghost use Rattle.std.specs.Prelude.{◌≡◌, ◌⊎◌, ◌++◌, ◌<◌, [], drop, length, IfOk, IsFalse, IsTrue, MatchOption};
 ghost use Rattle.std.specs.String.{string_bytes};
 ghost use Rattle.range_set_c.specs.Answer.{HasNoRoom, IsBadText, IsChanged, IsRefused};
-ghost use Rattle.range_set_c.specs.SetText.{text_of, IsRead, IsUnread};
+ghost use Rattle.range_set_c.specs.SetText.{text_of, IsRead, IsUnexpectedAt, IsUnread};
 
 use super::handle::Handle;
 use crate::nullable_box::NullableBox;
 use crate::status::{BAD_TEXT, CHANGED, NO_MEMORY, NO_ROOM};
 use range_set_blaze::{ParseError, RangeSetBlaze};
+use rsb_range_text::spelled_ranges;
 use std::alloc::{AllocError, Global};
 use std::str;
 
@@ -77,6 +78,34 @@ pub extern "C" fn rsb_u32_from_text(alloc: Global, out: &mut Handle, text: &[u8]
     out.set_to(alloc, Ok(set))
 }
 
+/// Does the same as `rsb_u32_from_text`. If it returns `BAD_TEXT`, it also stores the position of
+/// the first byte that no list of ranges has there in `at`. Otherwise, `at` is unchanged.
+#[unsafe(no_mangle)]
+pub extern "C" fn rsb_u32_from_text_at(
+    alloc: Global,
+    out: &mut Handle,
+    text: &[u8],
+    at: &mut usize,
+) -> u32
+    ensures answer { IsChanged result ⊎ IsRefused result ⊎ IsBadText result }
+    ensures read { IsChanged result → IsRead 32 text.now out.new.kept.set }
+    ensures unread { IsBadText result → IsUnread 32 text.now }
+    ensures unexpected { IsBadText result → IsUnexpectedAt 32 text.now at.new }
+    ensures left { ¬ IsChanged result → out.new.kept.set ≡ out.old.kept.set }
+    ensures found { ¬ IsBadText result → at.new ≡ at.old }
+    ensures spared { text.now ≡ [] → IsChanged result }
+{
+    let answer = rsb_u32_from_text(alloc, out, text);
+    if answer != BAD_TEXT {
+        return answer;
+    }
+    let Ok(place) = unexpected(alloc, text) else {
+        return NO_MEMORY;
+    };
+    *at = place;
+    BAD_TEXT
+}
+
 // Returns the text of a set.
 fn text_of_set(alloc: Global, set: &RangeSetBlaze<u32, Global>) -> Result<String, AllocError>
     ensures { IfOk result (λ text. string_bytes text ≡ text_of set.now) }
@@ -113,5 +142,17 @@ fn read(alloc: Global, text: &[u8]) -> Result<Option<RangeSetBlaze<u32, Global>>
             Err(ParseError::NoMemory(error)) => Err(error),
             Err(ParseError::Unexpected(_)) => Ok(None),
         },
+    }
+}
+
+// Returns the position of the first unexpected byte of text that does not list ranges.
+fn unexpected(alloc: Global, text: &[u8]) -> Result<usize, AllocError>
+    requires { IsUnread 32 text.now }
+    ensures { IfOk result (λ place. IsUnexpectedAt 32 text.now place) }
+{
+    match spelled_ranges::<u32, Global>(alloc, text) {
+        Ok(_) => unreachable!(),
+        Err(ParseError::NoMemory(error)) => Err(error),
+        Err(ParseError::Unexpected(place)) => Ok(place),
     }
 }

@@ -7,11 +7,9 @@
 //! run that it got.
 
 ghost use Rattle.std.specs.Prelude.{◌≡◌, ℕ, ◌^◌, ◌<◌, ◌≤◌, drop, length, map, IfSome, IsFalse, IsNone, IsTrue};
-ghost use Rattle.rsb_integer.specs.Runs.{covers, from_to, length_of, members, IsMaximalRun};
+ghost use Rattle.rsb_integer.specs.Runs.{covers, from_to, members, IsMaximalRun};
 ghost use Rattle.rsb_integer.specs.Selection.{complement, intersection};
-ghost use Rattle.range_set_blaze.specs.FirstFit.{AllShorter, AllShorterBefore};
 ghost use Rattle.range_set_blaze.specs.Set.{IsRunAround};
-ghost use Rattle.range_set_blaze.specs.Split.{from_on};
 ghost use Rattle.range_set_c.specs.U64Runs.{interval_of_run};
 ghost use Rattle.range_set_c.specs.Walk.{BeginsWithRuns, IsFirstAfter, IsLastBefore, NoneAfter, NoneBefore};
 
@@ -165,37 +163,6 @@ pub extern "C" fn rsb_u64_runs_in(
 {
     let empty = RangeSetBlaze::new(alloc);
     store_runs(set.set_or(&empty), first, last, runs)
-}
-
-/// Stores the first gap with at least `len` values at or above `from` in `gap` and returns true. If
-/// a gap starts below `from`, only its part at or above `from` counts, and only that part is
-/// stored. If no gap is that long, it returns false, and `gap` is unchanged.
-#[unsafe(no_mangle)]
-pub extern "C" fn rsb_u64_first_gap(
-    alloc: Global,
-    set: &mut Handle,
-    from: u64,
-    len: u64,
-    gap: &mut Run,
-) -> bool
-    ensures gap { IsTrue result → IsMaximalRun (2 ^ 64)
-        (intersection (complement (members set.old.kept.set)) (from_on from))
-        (from_to gap.new.first gap.new.last) }
-    ensures long { IsTrue result → len ≤ length_of (from_to gap.new.first gap.new.last) }
-    ensures first { IsTrue result → AllShorterBefore (2 ^ 64)
-        (intersection (complement (members set.old.kept.set)) (from_on from)) len gap.new.first }
-    ensures none { IsFalse result → AllShorter (2 ^ 64)
-        (intersection (complement (members set.old.kept.set)) (from_on from)) len }
-    ensures left { IsFalse result → gap.new ≡ gap.old }
-    ensures same { set.new.kept.set ≡ set.old.kept.set }
-{
-    let empty = RangeSetBlaze::new(alloc);
-    let found = set.set_or(&empty).first_gap_from(from, len as u128);
-    let Some(range) = found else {
-        return false;
-    };
-    *gap = Run::of(range);
-    true
 }
 
 // Stores the runs of the members between two values in an array, until it is full or no run is left,
