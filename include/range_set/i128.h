@@ -1,8 +1,9 @@
 /* Written by tools/c/narrow from include/range_set.h. */
-/* Sets of rsb_i128_value: the calls of range_set.h with i128 in place of u128. They are only tested, and
- * made of those: a value is turned into one of rsb_u128_value in the same order. What range_set.h says about a call holds
- * here too, except that the least value is RSB_I128_MIN and the greatest one RSB_I128_MAX. A number of values (`n`, `len`, and what
- * `len` and `rank` return) has no sign. rsb_i128_to_text does not allocate. */
+/* Sets of rsb_i128_value: the calls of range_set.h with i128 in place of u128. They are only
+ * tested, and call those: a value is turned into one of rsb_u128_value in the same order
+ * (docs/DECISIONS.md, signed-by-order). What range_set.h says about a call holds here too, but the
+ * least value is RSB_I128_MIN and the greatest one RSB_I128_MAX. A number of values (`n`, `len`,
+ * and what `len` and `rank` return) has no sign. rsb_i128_to_text does not allocate. */
 #ifndef RANGE_SET_I128_H
 #define RANGE_SET_I128_H
 

@@ -1,8 +1,9 @@
 /* Written by tools/c/narrow from include/range_set.h. */
-/* Sets of int32_t: the calls of range_set.h with i32 in place of u32. They are only tested, and
- * made of those: a value is turned into one of uint32_t in the same order. What range_set.h says about a call holds
- * here too, except that the least value is INT32_MIN and the greatest one INT32_MAX. A number of values (`n`, `len`, and what
- * `len` and `rank` return) has no sign. rsb_i32_to_text does not allocate. */
+/* Sets of int32_t: the calls of range_set.h with i32 in place of u32. They are only
+ * tested, and call those: a value is turned into one of uint32_t in the same order
+ * (docs/DECISIONS.md, signed-by-order). What range_set.h says about a call holds here too, but the
+ * least value is INT32_MIN and the greatest one INT32_MAX. A number of values (`n`, `len`,
+ * and what `len` and `rank` return) has no sign. rsb_i32_to_text does not allocate. */
 #ifndef RANGE_SET_I32_H
 #define RANGE_SET_I32_H
 

@@ -1,8 +1,9 @@
 /* Written by tools/c/narrow from include/range_set.h. */
-/* Sets of int64_t: the calls of range_set.h with i64 in place of u64. They are only tested, and
- * made of those: a value is turned into one of uint64_t in the same order. What range_set.h says about a call holds
- * here too, except that the least value is INT64_MIN and the greatest one INT64_MAX. A number of values (`n`, `len`, and what
- * `len` and `rank` return) has no sign. rsb_i64_to_text does not allocate. */
+/* Sets of int64_t: the calls of range_set.h with i64 in place of u64. They are only
+ * tested, and call those: a value is turned into one of uint64_t in the same order
+ * (docs/DECISIONS.md, signed-by-order). What range_set.h says about a call holds here too, but the
+ * least value is INT64_MIN and the greatest one INT64_MAX. A number of values (`n`, `len`,
+ * and what `len` and `rank` return) has no sign. rsb_i64_to_text does not allocate. */
 #ifndef RANGE_SET_I64_H
 #define RANGE_SET_I64_H
 

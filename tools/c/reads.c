@@ -1,7 +1,7 @@
 /* Calls that only read a set write nothing: here its handle and all its memory can't be written while they are called, and
- * four threads call them at once. */
+ * four threads call them at once. It is compiled once for each kind of number (kinds.h). */
 #define _DEFAULT_SOURCE
-#include "range_set.h"
+#include "kinds.h"
 
 #include <pthread.h>
 #include <stdio.h>
@@ -42,12 +42,10 @@ void __wrap_free(void *at) {
 }
 
 /* The handles lie in the arena too. */
-typedef struct pairs {
-    rsb_u64 wide;
-    rsb_u64 wide_other;
-    rsb_u32 narrow;
-    rsb_u32 narrow_other;
-} pairs;
+typedef struct pair {
+    set_t one;
+    set_t other;
+} pair;
 
 #define CHECK(claim)                                                                  \
     do {                                                                              \
@@ -57,54 +55,51 @@ typedef struct pairs {
         }                                                                             \
     } while (0)
 
+/* The calls that look for a run or a gap beside a value. */
+static void looks(const set_t *set, number value, bool member) {
+    run_t run;
+    CHECK(CALL(run_or_gap)(set, value, &run) == member);
+    CHECK(!CALL(next_run)(set, value, &run) || run.first % 20 == 0);
+    CHECK(CALL(prev_run)(set, value, &run) && run.first % 20 == 0);
+    CHECK(!CALL(run_after)(set, value, &run) || run.first > value);
+    CHECK(!CALL(run_before)(set, value, &run) || run.last < value);
+    CHECK(CALL(next_gap)(set, value, &run) && run.last >= value);
+    CHECK(!CALL(prev_gap)(set, value, &run) || run.first <= value);
+    CHECK(!CALL(gap_after)(set, value, &run) || run.first > value);
+    CHECK(!CALL(gap_before)(set, value, &run) || run.last < value);
+}
+
+/* The calls that read the whole set, or two. */
+static void reads_all(const pair *sets) {
+    static const char text[] = "0..=9, 20..=29";
+    const set_t *set = &sets->one, *other = &sets->other;
+    number value = 0, first = 0, last = 0;
+    run_t run, runs[3];
+    size_t length = 0;
+    CHECK(counted(CALL(len_in)(set, 10, 39)) == 10 && counted(CALL(rank)(set, 25)) == 15);
+    CHECK(CALL(nth)(set, 15, &value) && value == 25);
+    CHECK(CALL(runs_in)(set, 5, 25, runs, 3) == 2 && runs[0].first == 5 && runs[1].last == 25);
+    CHECK(CALL(first_gap)(set, 5, 3, &run) && run.first == 10 && run.last == 19);
+    CHECK(CALL(first_run_of)(set, 5, 6, &run) && run.first == 20 && run.last == 29);
+    CHECK(counted(CALL(len)(set)) == 10 * RUNS && CALL(run_count)(set) == RUNS && !CALL(is_empty)(set));
+    CHECK(CALL(first)(set, &first) && CALL(last)(set, &last) && first < last);
+    CHECK(CALL(first_run)(set, &run) && run.first == first && CALL(last_run)(set, &run) && run.last == last);
+    CHECK(CALL(to_short_text)(set, NULL, 0, &length) == RSB_NO_ROOM && length > sizeof text);
+    CHECK(CALL(equal)(set, other) && CALL(order)(set, other) == 0);
+    CHECK(CALL(is_subset)(set, other) && !CALL(is_disjoint)(set, other));
+}
+
 static void *reads(void *argument) {
-    const pairs *sets = argument;
-    for (uint64_t value = 0; value < 20 * RUNS; value += 7) {
-        rsb_u64_run wide;
-        rsb_u32_run narrow;
+    const pair *sets = argument;
+    for (int value = 0; value < 20 * RUNS; value += 7) {
         bool member = value % 20 < 10;
-        CHECK(rsb_u64_contains(&sets->wide, value) == member);
-        CHECK(rsb_u32_contains(&sets->narrow, (uint32_t)value) == member);
-        CHECK(rsb_u64_run_or_gap(&sets->wide, value, &wide) == member);
-        CHECK(rsb_u32_run_or_gap(&sets->narrow, (uint32_t)value, &narrow) == member);
-        CHECK(!rsb_u64_next_run(&sets->wide, value, &wide) || wide.first % 20 == 0);
-        CHECK(!rsb_u32_next_run(&sets->narrow, (uint32_t)value, &narrow) || narrow.first % 20 == 0);
-        CHECK(rsb_u64_prev_run(&sets->wide, value, &wide) && wide.first % 20 == 0);
-        CHECK(rsb_u32_prev_run(&sets->narrow, (uint32_t)value, &narrow) && narrow.first % 20 == 0);
-        CHECK(!rsb_u64_run_after(&sets->wide, value, &wide) || wide.first > value);
-        CHECK(!rsb_u32_run_after(&sets->narrow, (uint32_t)value, &narrow) || narrow.first > value);
-        CHECK(!rsb_u64_run_before(&sets->wide, value, &wide) || wide.last < value);
-        CHECK(!rsb_u32_run_before(&sets->narrow, (uint32_t)value, &narrow) || narrow.last < value);
-        CHECK(rsb_u64_contains_range(&sets->wide, value, value) == member);
-        CHECK(rsb_u32_contains_range(&sets->narrow, (uint32_t)value, (uint32_t)value) == member);
-        CHECK(rsb_u64_is_disjoint_range(&sets->wide, value, value) == !member);
-        CHECK(rsb_u32_is_disjoint_range(&sets->narrow, (uint32_t)value, (uint32_t)value) == !member);
+        CHECK(CALL(contains)(&sets->one, (number)value) == member);
+        CHECK(CALL(contains_range)(&sets->one, (number)value, (number)value) == member);
+        CHECK(CALL(is_disjoint_range)(&sets->one, (number)value, (number)value) == !member);
+        looks(&sets->one, (number)value, member);
     }
     for (int turn = 0; turn < 20; turn++) {
-        uint64_t first = 0, last = 0;
-        uint32_t lowest = 0, highest = 0;
-        rsb_u64_run wide;
-        rsb_u32_run narrow;
-        CHECK(rsb_u64_len_in(&sets->wide, 10, 39).low == 10 && rsb_u32_len_in(&sets->narrow, 10, 39) == 10);
-        CHECK(rsb_u64_rank(&sets->wide, 25).low == 15 && rsb_u32_rank(&sets->narrow, 25) == 15);
-        CHECK(rsb_u64_nth(&sets->wide, 15, &first) && first == 25);
-        CHECK(rsb_u32_nth(&sets->narrow, 15, &lowest) && lowest == 25);
-        rsb_u64_run wides[3];
-        rsb_u32_run narrows[3];
-        CHECK(rsb_u64_runs_in(&sets->wide, 5, 25, wides, 3) == 2 && wides[0].first == 5 && wides[1].last == 25);
-        CHECK(rsb_u32_runs_in(&sets->narrow, 5, 25, narrows, 3) == 2 && narrows[0].first == 5 && narrows[1].last == 25);
-        CHECK(rsb_u64_first_gap(&sets->wide, 5, 3, &wide) && wide.first == 10 && wide.last == 19);
-        CHECK(rsb_u32_first_gap(&sets->narrow, 5, 3, &narrow) && narrow.first == 10 && narrow.last == 19);
-        CHECK(rsb_u64_len(&sets->wide).low == 10 * RUNS && rsb_u32_len(&sets->narrow) == 10 * RUNS);
-        CHECK(rsb_u64_run_count(&sets->wide) == RUNS && rsb_u32_run_count(&sets->narrow) == RUNS);
-        CHECK(rsb_u64_first(&sets->wide, &first) && rsb_u64_last(&sets->wide, &last) && first < last);
-        CHECK(rsb_u32_first(&sets->narrow, &lowest) && rsb_u32_last(&sets->narrow, &highest) && lowest < highest);
-        CHECK(rsb_u64_equal(&sets->wide, &sets->wide_other) && rsb_u32_equal(&sets->narrow, &sets->narrow_other));
-        CHECK(rsb_u64_order(&sets->wide, &sets->wide_other) == 0);
-        CHECK(rsb_u32_order(&sets->narrow, &sets->narrow_other) == 0);
-        CHECK(rsb_u64_is_subset(&sets->wide, &sets->wide_other) && !rsb_u64_is_disjoint(&sets->wide, &sets->wide_other));
-        CHECK(rsb_u32_is_subset(&sets->narrow, &sets->narrow_other));
-        CHECK(!rsb_u32_is_disjoint(&sets->narrow, &sets->narrow_other));
+        reads_all(sets);
     }
     return NULL;
 }
@@ -112,14 +107,12 @@ static void *reads(void *argument) {
 int main(void) {
     arena = mmap(NULL, ARENA, PROT_READ | PROT_WRITE, MAP_PRIVATE | MAP_ANONYMOUS, -1, 0);
     CHECK(arena != MAP_FAILED);
-    pairs *sets = block(sizeof *sets);
+    pair *sets = block(sizeof *sets);
     memset(sets, 0, sizeof *sets);
-    for (uint64_t start = 0; start < 20 * RUNS; start += 20) {
-        CHECK(rsb_u64_insert_range(&sets->wide, start, start + 9) == RSB_CHANGED);
-        CHECK(rsb_u32_insert_range(&sets->narrow, (uint32_t)start, (uint32_t)start + 9) == RSB_CHANGED);
+    for (int start = 0; start < 20 * RUNS; start += 20) {
+        CHECK(CALL(insert_range)(&sets->one, (number)start, (number)start + 9) == RSB_CHANGED);
     }
-    CHECK(rsb_u64_clone(&sets->wide_other, &sets->wide) == RSB_CHANGED);
-    CHECK(rsb_u32_clone(&sets->narrow_other, &sets->narrow) == RSB_CHANGED);
+    CHECK(CALL(clone)(&sets->other, &sets->one) == RSB_CHANGED);
 
     CHECK(mprotect(arena, ARENA, PROT_READ) == 0);
     pthread_t threads[THREADS];
@@ -129,6 +122,6 @@ int main(void) {
     for (int i = 0; i < THREADS; i++) {
         CHECK(pthread_join(threads[i], NULL) == 0);
     }
-    printf("reads write nothing: %d threads at once, over memory that can't be written\n", THREADS);
+    printf(SIGN "%d: reads write nothing: %d threads at once, over memory that can't be written\n", WIDTH, THREADS);
     return 0;
 }

@@ -12,10 +12,11 @@ SIGNED = {"i32": "u32", "i64": "u64", "i128": "u128"}
 DECLARATION = re.compile(r"^((?:RSB_NODISCARD )?)([\w ]+?) rsb_u\d+_(\w+)\(([^)]*)\);", re.M)
 ARRAYS = ("runs_in", "from_runs", "from_text", "from_text_at", "to_text")
 
-FRAME = """/* Sets of {value}: the calls of range_set.h with {kind} in place of {unsigned}. They are only tested, and
- * made of those: a value is turned into one of {unsigned_value} in the same order. What range_set.h says about a call holds
- * here too, except that the least value is {least} and the greatest one {greatest}. A number of values (`n`, `len`, and what
- * `len` and `rank` return) has no sign. rsb_{kind}_to_text does not allocate. */
+FRAME = """/* Sets of {value}: the calls of range_set.h with {kind} in place of {unsigned}. They are only
+ * tested, and call those: a value is turned into one of {unsigned_value} in the same order
+ * (docs/DECISIONS.md, signed-by-order). What range_set.h says about a call holds here too, but the
+ * least value is {least} and the greatest one {greatest}. A number of values (`n`, `len`,
+ * and what `len` and `rank` return) has no sign. rsb_{kind}_to_text does not allocate. */
 #ifndef RANGE_SET_{name}_H
 #define RANGE_SET_{name}_H
 

@@ -11,6 +11,7 @@ LINE = 100
 # What differs by more than names, before the exports are changed.
 COUNT = re.compile(r"\n/// The number of members, .*", re.S)
 OTHERS = (
+    ("\nmod run;\n", "\npub(crate) mod run;\n"),
     ("//! Runs and numbers of members, as C sees them.", "//! Runs of numbers."),
     ("#[repr(C)]\n#[derive(Drop)]\npub struct Run", "#[derive(Drop)]\npub struct Run"),
     (" as u128", ""),

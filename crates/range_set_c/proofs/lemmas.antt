@@ -1,6 +1,7 @@
 pub mod Arrays
 pub mod Cast
 pub mod Filling
+pub mod Fitting
 pub mod NullableBoxForm
 pub mod SetText
 pub mod UnboxedForm

@@ -1,8 +1,8 @@
 //! The first run that has at least a given length, from a value on.
 
-ghost use Rattle.std.specs.Prelude.{◌≤◌, IfSome, IsNone};
+ghost use Rattle.std.specs.Prelude.{◌↔◌, ◌≤◌, IfSome, IsNone, IsTrue};
 ghost use Rattle.rsb_integer.specs.Rank.{interval_of};
-ghost use Rattle.rsb_integer.specs.Runs.{length_of, members, IsMaximalRun};
+ghost use Rattle.rsb_integer.specs.Runs.{length_of, members, HasRanks, IsMaximalRun};
 ghost use Rattle.rsb_integer.specs.Selection.{intersection};
 ghost use Rattle.range_set_blaze.specs.FirstFit.{AllShorter, AllShorterBefore};
 ghost use Rattle.range_set_blaze.specs.Split.{from_on};
@@ -32,9 +32,17 @@ pub(crate) fn first_run_from<T: Integer>(
 {
     let mut ranges = set.ranges_in(value..=T::max_value());
     while let Some(range) = ranges.next() {
-        if len <= T::safe_len(&range) {
+        if is_long(&range, len) {
             return Some(range);
         }
     }
     None
+}
+
+// Returns whether a range has at least `len` values.
+fn is_long<T: Integer>(range: &RangeInclusive<T>, len: T::SafeLen) -> bool
+    requires { HasRanks (interval_of T.rank range.now) }
+    ensures { IsTrue result ↔ (T.SafeLen.number len ≤ length_of (interval_of T.rank range.now)) }
+{
+    len <= T::safe_len(range)
 }

@@ -10,6 +10,6 @@ pub(crate) mod handle;
 mod in_place;
 mod kept;
 mod look_up;
-mod run;
+pub(crate) mod run;
 mod runs;
 mod text;

@@ -1,0 +1,5 @@
+use Rattle.range_set_c.proofs.u64_sets.text.unexpected.Goals as goal
+
+-- No ranges were read from text that lists none.
+pub unreachable-requires : goal.unreachable-requires
+unreachable-requires c = c.requires.no_list _ c.in-Ok.ensures.spelled
