@@ -1,21 +1,22 @@
-//! Calls that combine two sets, and the operators.
+//! Calls that combine two sets, and that change one by another.
 
-use core::ops::{
-    BitAnd, BitAndAssign, BitOr, BitOrAssign, BitXor, BitXorAssign, Not, Sub, SubAssign,
-};
 use core::ptr;
 
 use crate::calls::Handle;
-use crate::{allocated, changed, AllocError, Integer, RangeSet};
+use crate::span::Span;
+use crate::width::Number;
+use crate::{allocated, changed, AllocError, Element, RangeSet};
 
-impl<T: Integer> RangeSet<T> {
-    /// Returns whether both references are to one set. The library's exports do not take the same
-    /// set twice.
-    pub(crate) fn is_same(&self, other: &Self) -> bool {
-        ptr::eq(self, other)
-    }
-
+/// Calls that change a set.
+impl<T: Element> RangeSet<T> {
     /// Adds all members of another set and returns whether one of them was new.
+    ///
+    /// ```
+    /// # use range_set::RangeSet;
+    /// let mut set = RangeSet::from(1..=3);
+    /// assert!(set.union_with(&RangeSet::from(3..=5)));
+    /// assert_eq!(set.to_string(), "1..=5");
+    /// ```
     ///
     /// # Panics
     ///
@@ -28,16 +29,29 @@ impl<T: Integer> RangeSet<T> {
 
     /// Adds all members of another set and returns whether one of them was new. Does not allocate
     /// if none was.
+    ///
+    /// ```
+    /// # use range_set::RangeSet;
+    /// let mut set = RangeSet::from(1..=3);
+    /// assert_eq!(set.try_union_with(&RangeSet::from(3..=5)), Ok(true));
+    /// ```
     pub fn try_union_with(&mut self, other: &Self) -> Result<bool, AllocError> {
-        changed((T::CALLS.union_with)(&mut self.handle, &other.handle))
+        changed((Self::CALLS.union_with)(&mut self.handle, &other.handle))
     }
 
     /// Removes the members that another set does not have, and returns whether there were any.
     ///
+    /// ```
+    /// # use range_set::RangeSet;
+    /// let mut set = RangeSet::from(1..=3);
+    /// assert!(set.intersect_with(&RangeSet::from(3..=5)));
+    /// assert_eq!(set.to_string(), "3..=3");
+    /// ```
+    ///
     /// # Panics
     ///
-    /// Panics if an allocation fails. [`try_intersect_with`](Self::try_intersect_with) returns an
-    /// error instead.
+    /// Panics if an allocation fails. [`try_intersect_with`](Self::try_intersect_with) returns an error
+    /// instead.
     #[track_caller]
     pub fn intersect_with(&mut self, other: &Self) -> bool {
         allocated(self.try_intersect_with(other))
@@ -45,11 +59,27 @@ impl<T: Integer> RangeSet<T> {
 
     /// Removes the members that another set does not have, and returns whether there were any. Does
     /// not allocate if there were none, or if the other set is empty.
+    ///
+    /// ```
+    /// # use range_set::RangeSet;
+    /// let mut set = RangeSet::from(1..=3);
+    /// assert_eq!(set.try_intersect_with(&RangeSet::from(3..=5)), Ok(true));
+    /// ```
     pub fn try_intersect_with(&mut self, other: &Self) -> Result<bool, AllocError> {
-        changed((T::CALLS.intersect_with)(&mut self.handle, &other.handle))
+        changed((Self::CALLS.intersect_with)(
+            &mut self.handle,
+            &other.handle,
+        ))
     }
 
     /// Removes all members of another set, and returns whether one of them was a member.
+    ///
+    /// ```
+    /// # use range_set::RangeSet;
+    /// let mut set = RangeSet::from(1..=3);
+    /// assert!(set.subtract(&RangeSet::from(3..=5)));
+    /// assert_eq!(set.to_string(), "1..=2");
+    /// ```
     ///
     /// # Panics
     ///
@@ -62,12 +92,25 @@ impl<T: Integer> RangeSet<T> {
 
     /// Removes all members of another set, and returns whether one of them was a member. Does not
     /// allocate if none was.
+    ///
+    /// ```
+    /// # use range_set::RangeSet;
+    /// let mut set = RangeSet::from(1..=3);
+    /// assert_eq!(set.try_subtract(&RangeSet::from(3..=5)), Ok(true));
+    /// ```
     pub fn try_subtract(&mut self, other: &Self) -> Result<bool, AllocError> {
-        changed((T::CALLS.subtract)(&mut self.handle, &other.handle))
+        changed((Self::CALLS.subtract)(&mut self.handle, &other.handle))
     }
 
     /// Removes the members that another set has too, and adds the members that only the other set
     /// has. Returns whether the other set has any member.
+    ///
+    /// ```
+    /// # use range_set::RangeSet;
+    /// let mut set = RangeSet::from(1..=3);
+    /// assert!(set.xor_with(&RangeSet::from(3..=5)));
+    /// assert_eq!(set.to_string(), "1..=2, 4..=5");
+    /// ```
     ///
     /// # Panics
     ///
@@ -80,59 +123,201 @@ impl<T: Integer> RangeSet<T> {
 
     /// Removes the members that another set has too, and adds the members that only the other set
     /// has. Returns whether the other set has any member, and does not allocate if it has none.
+    ///
+    /// ```
+    /// # use range_set::RangeSet;
+    /// let mut set = RangeSet::from(1..=3);
+    /// assert_eq!(set.try_xor_with(&RangeSet::from(3..=5)), Ok(true));
+    /// ```
     pub fn try_xor_with(&mut self, other: &Self) -> Result<bool, AllocError> {
-        changed((T::CALLS.xor_with)(&mut self.handle, &other.handle))
+        changed((Self::CALLS.xor_with)(&mut self.handle, &other.handle))
+    }
+}
+
+/// Calls that return a new set.
+impl<T: Element> RangeSet<T> {
+    /// Returns the values that are in at least one of two sets, as `&a | &b` does.
+    ///
+    /// ```
+    /// # use range_set::RangeSet;
+    /// let (a, b) = (RangeSet::from(1..=3), RangeSet::from(3..=5));
+    /// assert_eq!(a.union(&b).to_string(), "1..=5");
+    /// ```
+    ///
+    /// # Panics
+    ///
+    /// Panics if an allocation fails. [`try_union`](Self::try_union) returns an error instead.
+    #[must_use]
+    #[track_caller]
+    pub fn union(&self, other: &Self) -> Self {
+        allocated(self.try_union(other))
     }
 
-    /// Returns the union. `&a | &b` is the same, but panics if an allocation fails.
+    /// Returns the values that are in at least one of two sets.
+    ///
+    /// ```
+    /// # use range_set::RangeSet;
+    /// let (a, b) = (RangeSet::from(1..=3), RangeSet::from(3..=5));
+    /// assert_eq!(a.try_union(&b)?.to_string(), "1..=5");
+    /// # Ok::<(), range_set::AllocError>(())
+    /// ```
     pub fn try_union(&self, other: &Self) -> Result<Self, AllocError> {
         if self.is_same(other) {
             return self.try_clone();
         }
         // SAFETY: the handles are of three sets.
-        Self::built(|out| unsafe { (T::CALLS.union)(out, &self.handle, &other.handle) })
+        Self::built(|out| unsafe { (Self::CALLS.union)(out, &self.handle, &other.handle) })
     }
 
-    /// Returns the intersection. `&a & &b` is the same, but panics if an allocation fails.
+    /// Returns the values that are in both sets, as `&a & &b` does.
+    ///
+    /// ```
+    /// # use range_set::RangeSet;
+    /// let (a, b) = (RangeSet::from(1..=3), RangeSet::from(3..=5));
+    /// assert_eq!(a.intersection(&b).to_string(), "3..=3");
+    /// ```
+    ///
+    /// # Panics
+    ///
+    /// Panics if an allocation fails. [`try_intersection`](Self::try_intersection) returns an error
+    /// instead.
+    #[must_use]
+    #[track_caller]
+    pub fn intersection(&self, other: &Self) -> Self {
+        allocated(self.try_intersection(other))
+    }
+
+    /// Returns the values that are in both sets.
+    ///
+    /// ```
+    /// # use range_set::RangeSet;
+    /// let (a, b) = (RangeSet::from(1..=3), RangeSet::from(3..=5));
+    /// assert_eq!(a.try_intersection(&b)?.to_string(), "3..=3");
+    /// # Ok::<(), range_set::AllocError>(())
+    /// ```
     pub fn try_intersection(&self, other: &Self) -> Result<Self, AllocError> {
         if self.is_same(other) {
             return self.try_clone();
         }
         // SAFETY: the handles are of three sets.
-        Self::built(|out| unsafe { (T::CALLS.intersection)(out, &self.handle, &other.handle) })
+        Self::built(|out| unsafe { (Self::CALLS.intersection)(out, &self.handle, &other.handle) })
     }
 
-    /// Returns the members that the other set does not have. `&a - &b` is the same, but panics if
-    /// an allocation fails.
+    /// Returns the members that the other set does not have, as `&a - &b` does.
+    ///
+    /// ```
+    /// # use range_set::RangeSet;
+    /// let (a, b) = (RangeSet::from(1..=3), RangeSet::from(3..=5));
+    /// assert_eq!(a.difference(&b).to_string(), "1..=2");
+    /// ```
+    ///
+    /// # Panics
+    ///
+    /// Panics if an allocation fails. [`try_difference`](Self::try_difference) returns an error
+    /// instead.
+    #[must_use]
+    #[track_caller]
+    pub fn difference(&self, other: &Self) -> Self {
+        allocated(self.try_difference(other))
+    }
+
+    /// Returns the members that the other set does not have.
+    ///
+    /// ```
+    /// # use range_set::RangeSet;
+    /// let (a, b) = (RangeSet::from(1..=3), RangeSet::from(3..=5));
+    /// assert_eq!(a.try_difference(&b)?.to_string(), "1..=2");
+    /// # Ok::<(), range_set::AllocError>(())
+    /// ```
     pub fn try_difference(&self, other: &Self) -> Result<Self, AllocError> {
         if self.is_same(other) {
             return Ok(Self::new());
         }
         // SAFETY: the handles are of three sets.
-        Self::built(|out| unsafe { (T::CALLS.difference)(out, &self.handle, &other.handle) })
+        Self::built(|out| unsafe { (Self::CALLS.difference)(out, &self.handle, &other.handle) })
     }
 
-    /// Returns the values that are members of exactly one of two sets. `&a ^ &b` is the same, but
-    /// panics if an allocation fails.
+    /// Returns the values that are in exactly one of two sets, as `&a ^ &b` does.
+    ///
+    /// ```
+    /// # use range_set::RangeSet;
+    /// let (a, b) = (RangeSet::from(1..=3), RangeSet::from(3..=5));
+    /// assert_eq!(a.symmetric_difference(&b).to_string(), "1..=2, 4..=5");
+    /// ```
+    ///
+    /// # Panics
+    ///
+    /// Panics if an allocation fails. [`try_symmetric_difference`](Self::try_symmetric_difference) returns an error
+    /// instead.
+    #[must_use]
+    #[track_caller]
+    pub fn symmetric_difference(&self, other: &Self) -> Self {
+        allocated(self.try_symmetric_difference(other))
+    }
+
+    /// Returns the values that are in exactly one of two sets.
+    ///
+    /// ```
+    /// # use range_set::RangeSet;
+    /// let (a, b) = (RangeSet::from(1..=3), RangeSet::from(3..=5));
+    /// assert_eq!(a.try_symmetric_difference(&b)?.to_string(), "1..=2, 4..=5");
+    /// # Ok::<(), range_set::AllocError>(())
+    /// ```
     pub fn try_symmetric_difference(&self, other: &Self) -> Result<Self, AllocError> {
         if self.is_same(other) {
             return Ok(Self::new());
         }
         // SAFETY: the handles are of three sets.
         Self::built(|out| unsafe {
-            (T::CALLS.symmetric_difference)(out, &self.handle, &other.handle)
+            (Self::CALLS.symmetric_difference)(out, &self.handle, &other.handle)
         })
     }
 
-    /// Returns the values that are not members. `!&a` is the same, but panics if an allocation
-    /// fails.
+    /// Returns the values of the type that are not members, as `!&a` does.
+    ///
+    /// ```
+    /// # use range_set::RangeSet;
+    /// assert_eq!(RangeSet::<u8>::from(5..=9).complement().to_string(), "0..=4, 10..=255");
+    /// ```
+    ///
+    /// # Panics
+    ///
+    /// Panics if an allocation fails. [`try_complement`](Self::try_complement) returns an error
+    /// instead.
+    #[must_use]
+    #[track_caller]
+    pub fn complement(&self) -> Self {
+        allocated(self.try_complement())
+    }
+
+    /// Returns the values of the type that are not members.
+    ///
+    /// ```
+    /// # use range_set::RangeSet;
+    /// let others = RangeSet::<i8>::from(0..=127).try_complement()?;
+    /// assert_eq!(others.to_string(), "-128..=-1");
+    /// # Ok::<(), range_set::AllocError>(())
+    /// ```
     pub fn try_complement(&self) -> Result<Self, AllocError> {
-        Self::built(|out| (T::CALLS.complement)(out, &self.handle))
+        let has_all_ranks = Span {
+            first: T::Rank::LEAST,
+            last: T::Rank::GREATEST,
+        };
+        if Span::of_type::<T>() == Some(has_all_ranks) {
+            return Self::built(|out| (Self::CALLS.complement)(out, &self.handle));
+        }
+        Self::try_universe()?.try_difference(self)
     }
 
     /// Returns a copy. `clone` is the same, but panics if an allocation fails.
+    ///
+    /// ```
+    /// # use range_set::RangeSet;
+    /// let set = RangeSet::from(1..=3);
+    /// assert_eq!(set.try_clone(), Ok(set));
+    /// ```
     pub fn try_clone(&self) -> Result<Self, AllocError> {
-        Self::built(|out| (T::CALLS.clone)(out, &self.handle))
+        Self::built(|out| (Self::CALLS.clone)(out, &self.handle))
     }
 
     /// Returns the set that a call makes.
@@ -141,111 +326,51 @@ impl<T: Integer> RangeSet<T> {
         changed(call(&mut out.handle))?;
         Ok(out)
     }
+}
 
+/// Calls that compare two sets.
+impl<T: Element> RangeSet<T> {
     /// Returns whether each member is a member of another set.
+    ///
+    /// ```
+    /// # use range_set::RangeSet;
+    /// assert!(RangeSet::from(2..=3).is_subset(&RangeSet::from(1..=5)));
+    /// ```
     #[must_use]
     pub fn is_subset(&self, other: &Self) -> bool {
         // SAFETY: the handles are of two sets.
-        self.is_same(other) || unsafe { (T::CALLS.is_subset)(&self.handle, &other.handle) }
+        self.is_same(other) || unsafe { (Self::CALLS.is_subset)(&self.handle, &other.handle) }
     }
 
     /// Returns whether each member of another set is a member.
+    ///
+    /// ```
+    /// # use range_set::RangeSet;
+    /// assert!(RangeSet::from(1..=5).is_superset(&RangeSet::from(2..=3)));
+    /// ```
     #[must_use]
     pub fn is_superset(&self, other: &Self) -> bool {
         other.is_subset(self)
     }
 
     /// Returns whether no value is a member of both sets.
+    ///
+    /// ```
+    /// # use range_set::RangeSet;
+    /// assert!(RangeSet::from(1..=5).is_disjoint(&RangeSet::from(6..=7)));
+    /// ```
     #[must_use]
     pub fn is_disjoint(&self, other: &Self) -> bool {
         if self.is_same(other) {
             return self.is_empty();
         }
         // SAFETY: the handles are of two sets.
-        unsafe { (T::CALLS.is_disjoint)(&self.handle, &other.handle) }
+        unsafe { (Self::CALLS.is_disjoint)(&self.handle, &other.handle) }
     }
-}
 
-/// An operator on sets, from the call that returns a new set and the call that changes the left
-/// one.
-macro_rules! operator {
-    (
-        $operator:ident, $method:ident, $try_call:ident;
-        $assign:ident, $assign_method:ident, $call_with:ident
-    ) => {
-        impl<T: Integer> $operator for &RangeSet<T> {
-            type Output = RangeSet<T>;
-
-            #[track_caller]
-            fn $method(self, other: Self) -> RangeSet<T> {
-                allocated(self.$try_call(other))
-            }
-        }
-
-        impl<T: Integer> $operator<RangeSet<T>> for &RangeSet<T> {
-            type Output = RangeSet<T>;
-
-            #[track_caller]
-            fn $method(self, other: RangeSet<T>) -> RangeSet<T> {
-                allocated(self.$try_call(&other))
-            }
-        }
-
-        impl<T: Integer> $operator<&RangeSet<T>> for RangeSet<T> {
-            type Output = RangeSet<T>;
-
-            #[track_caller]
-            fn $method(mut self, other: &RangeSet<T>) -> RangeSet<T> {
-                self.$call_with(other);
-                self
-            }
-        }
-
-        impl<T: Integer> $operator for RangeSet<T> {
-            type Output = RangeSet<T>;
-
-            #[track_caller]
-            fn $method(mut self, other: RangeSet<T>) -> RangeSet<T> {
-                self.$call_with(&other);
-                self
-            }
-        }
-
-        impl<T: Integer> $assign<&RangeSet<T>> for RangeSet<T> {
-            #[track_caller]
-            fn $assign_method(&mut self, other: &RangeSet<T>) {
-                self.$call_with(other);
-            }
-        }
-
-        impl<T: Integer> $assign for RangeSet<T> {
-            #[track_caller]
-            fn $assign_method(&mut self, other: RangeSet<T>) {
-                self.$call_with(&other);
-            }
-        }
-    };
-}
-
-operator!(BitOr, bitor, try_union; BitOrAssign, bitor_assign, union_with);
-operator!(BitAnd, bitand, try_intersection; BitAndAssign, bitand_assign, intersect_with);
-operator!(Sub, sub, try_difference; SubAssign, sub_assign, subtract);
-operator!(BitXor, bitxor, try_symmetric_difference; BitXorAssign, bitxor_assign, xor_with);
-
-impl<T: Integer> Not for &RangeSet<T> {
-    type Output = RangeSet<T>;
-
-    #[track_caller]
-    fn not(self) -> RangeSet<T> {
-        allocated(self.try_complement())
-    }
-}
-
-impl<T: Integer> Not for RangeSet<T> {
-    type Output = RangeSet<T>;
-
-    #[track_caller]
-    fn not(self) -> RangeSet<T> {
-        !&self
+    /// Returns whether both references are to one set. The library's exports do not take the same
+    /// set twice.
+    pub(crate) fn is_same(&self, other: &Self) -> bool {
+        ptr::eq(self, other)
     }
 }

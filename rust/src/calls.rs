@@ -8,6 +8,9 @@
 use core::ffi::c_void;
 use core::ptr;
 
+use crate::count::Count;
+use crate::width::Number;
+
 /// What the C library keeps of a set. Null is the empty set.
 #[repr(C)]
 #[derive(Debug)]
@@ -15,7 +18,8 @@ pub struct Handle {
     private: *mut c_void,
 }
 
-// SAFETY: the header lets a set pass from one thread to another.
+// SAFETY: the header lets a set pass from one thread to another. The pointer leads to memory that
+// no other handle reaches.
 unsafe impl Send for Handle {}
 
 // SAFETY: the header lets threads share a handle as long as all of them only read. A call writes
@@ -30,7 +34,8 @@ impl Handle {
     }
 }
 
-/// What the C library keeps of a list of sets. Null is the empty list.
+/// What the C library keeps of a list of sets. Null is the empty list. No thread gets one from
+/// another.
 #[repr(C)]
 pub struct List {
     private: *mut c_void,
@@ -44,25 +49,59 @@ impl List {
     }
 }
 
-/// The values from `first` to `last`, both included.
+/// The ranks from `first` to `last`, both included.
 #[repr(C)]
 #[derive(Clone, Copy, Debug)]
-pub struct Run<T> {
-    pub first: T,
-    pub last: T,
+pub struct Run<V> {
+    pub first: V,
+    pub last: V,
 }
 
-/// The number low + 2^64 * high.
+/// The number low + 2^64 * high, as C passes 128 bits.
 #[repr(C)]
-#[derive(Clone, Copy)]
-pub struct Count {
+#[derive(Clone, Copy, Debug)]
+pub struct Halves {
     low: u64,
     high: u64,
 }
 
-impl From<Count> for u128 {
-    fn from(count: Count) -> u128 {
-        u128::from(count.low) | u128::from(count.high) << 64
+impl From<u128> for Halves {
+    fn from(number: u128) -> Self {
+        Halves {
+            low: number as u64,
+            high: (number >> 64) as u64,
+        }
+    }
+}
+
+impl From<Halves> for u128 {
+    fn from(halves: Halves) -> u128 {
+        u128::from(halves.low) | u128::from(halves.high) << 64
+    }
+}
+
+impl From<Halves> for Count {
+    fn from(halves: Halves) -> Count {
+        Count::from(u128::from(halves))
+    }
+}
+
+/// The number low + 2^64 * high + 2^128 * top.
+#[repr(C)]
+#[derive(Clone, Copy)]
+pub struct Thirds {
+    low: u64,
+    high: u64,
+    top: u64,
+}
+
+impl From<Thirds> for Count {
+    fn from(thirds: Thirds) -> Count {
+        if thirds.top > 0 {
+            return Count::MAX;
+        }
+        let (low, high) = (thirds.low, thirds.high);
+        Count::from(Halves { low, high })
     }
 }
 
@@ -70,45 +109,53 @@ impl From<Count> for u128 {
 /// failed.
 pub const UNCHANGED: u32 = 0;
 pub const CHANGED: u32 = 1;
-pub const BAD_TEXT: u32 = 3;
 
-/// A type of values, whose sets have functions in the library.
-pub trait Width: Sized + 'static {
-    type Count: Into<u128> + 'static;
-    const CALLS: &'static Calls<Self, Self::Count>;
-}
+/// The functions for sets whose ranks are of type `R`.
+pub type CallsOf<R> = Calls<<R as Number>::Value, <R as Number>::Count, <R as Number>::Place>;
+
+/// A run of ranks of type `R`, as C has it.
+pub type RunOf<R> = Run<<R as Number>::Value>;
 
 macro_rules! calls {
     (
         safe: $(fn $name:ident($($argument:ident: $type:ty),*) $(-> $result:ty)?;)*
         unsafe: $(fn $on_two:ident($($argument_of_two:ident: $type_of_two:ty),*) -> $answer:ty;)*
     ) => {
-        /// The functions for sets of `T`. They return numbers of members as `N`.
-        pub struct Calls<T, N> {
+        /// The functions for sets whose ranks C passes as `V`. They return numbers of members as
+        /// `N`, and take those that a value may have below it as `P`.
+        pub struct Calls<V, N, P> {
             $(pub $name: extern "C" fn($($argument: $type),*) $(-> $result)?,)*
             $(pub $on_two: unsafe extern "C" fn($($argument_of_two: $type_of_two),*) -> $answer,)*
         }
 
         calls! {
-            u64, Count, "rsb_u64_";
+            u32_calls, u32, u64, u64, "rsb_u32_";
             $(safe fn $name($($argument: $type),*) $(-> $result)?;)*
             $(unsafe fn $on_two($($argument_of_two: $type_of_two),*) -> $answer;)*
         }
         calls! {
-            u32, u64, "rsb_u32_";
+            u64_calls, u64, Halves, u64, "rsb_u64_";
+            $(safe fn $name($($argument: $type),*) $(-> $result)?;)*
+            $(unsafe fn $on_two($($argument_of_two: $type_of_two),*) -> $answer;)*
+        }
+        calls! {
+            u128_calls, Halves, Thirds, Halves, "rsb_u128_";
             $(safe fn $name($($argument: $type),*) $(-> $result)?;)*
             $(unsafe fn $on_two($($argument_of_two: $type_of_two),*) -> $answer;)*
         }
     };
 
-    // The functions for one type of values.
+    // The functions for one width.
     (
-        $value:ty, $count:ty, $prefix:literal;
+        $width:ident, $value:ty, $count:ty, $place:ty, $prefix:literal;
         $($safety:tt fn $name:ident($($argument:ident: $type:ty),*) $(-> $result:ty)?;)*
     ) => {
-        const _: () = {
-            type T = $value;
+        pub mod $width {
+            use super::*;
+
+            type V = $value;
             type N = $count;
+            type P = $place;
 
             // SAFETY: these are the declarations of the header.
             unsafe extern "C" {
@@ -118,42 +165,39 @@ macro_rules! calls {
                 )*
             }
 
-            impl Width for T {
-                type Count = N;
-                const CALLS: &'static Calls<T, N> = &Calls { $($name),* };
-            }
-        };
+            pub const CALLS: &Calls<V, N, P> = &Calls { $($name),* };
+        }
     };
 }
 
 calls! {
     safe:
-    fn insert_range(set: &mut Handle, first: T, last: T) -> u32;
-    fn insert(set: &mut Handle, value: T) -> u32;
-    fn remove(set: &mut Handle, value: T) -> u32;
-    fn remove_range(set: &mut Handle, first: T, last: T) -> u32;
+    fn insert_range(set: &mut Handle, first: V, last: V) -> u32;
+    fn insert(set: &mut Handle, value: V) -> u32;
+    fn remove(set: &mut Handle, value: V) -> u32;
+    fn remove_range(set: &mut Handle, first: V, last: V) -> u32;
     fn union_with(set: &mut Handle, other: &Handle) -> u32;
     fn intersect_with(set: &mut Handle, other: &Handle) -> u32;
     fn subtract(set: &mut Handle, other: &Handle) -> u32;
     fn xor_with(set: &mut Handle, other: &Handle) -> u32;
     fn clear(set: &mut Handle);
     fn free(set: &mut Handle);
-    fn contains(set: &Handle, value: T) -> bool;
-    fn contains_range(set: &Handle, first: T, last: T) -> bool;
-    fn is_disjoint_range(set: &Handle, first: T, last: T) -> bool;
+    fn contains(set: &Handle, value: V) -> bool;
+    fn contains_range(set: &Handle, first: V, last: V) -> bool;
+    fn is_disjoint_range(set: &Handle, first: V, last: V) -> bool;
     fn len(set: &Handle) -> N;
-    fn len_in(set: &Handle, first: T, last: T) -> N;
-    fn rank(set: &Handle, value: T) -> N;
-    fn nth(set: &Handle, n: u64, value: &mut T) -> bool;
+    fn len_in(set: &Handle, first: V, last: V) -> N;
+    fn rank(set: &Handle, value: V) -> N;
+    fn nth(set: &Handle, n: P, value: &mut V) -> bool;
     fn run_count(set: &Handle) -> usize;
-    fn first(set: &Handle, value: &mut T) -> bool;
-    fn last(set: &Handle, value: &mut T) -> bool;
-    fn run_or_gap(set: &Handle, value: T, block: &mut Run<T>) -> bool;
-    fn next_run(set: &Handle, from: T, run: &mut Run<T>) -> bool;
-    fn prev_run(set: &Handle, from: T, run: &mut Run<T>) -> bool;
-    fn run_after(set: &Handle, value: T, run: &mut Run<T>) -> bool;
-    fn run_before(set: &Handle, value: T, run: &mut Run<T>) -> bool;
-    fn first_gap(set: &Handle, from: T, len: u64, gap: &mut Run<T>) -> bool;
+    fn first(set: &Handle, value: &mut V) -> bool;
+    fn last(set: &Handle, value: &mut V) -> bool;
+    fn run_or_gap(set: &Handle, value: V, block: &mut Run<V>) -> bool;
+    fn next_run(set: &Handle, from: V, run: &mut Run<V>) -> bool;
+    fn prev_run(set: &Handle, from: V, run: &mut Run<V>) -> bool;
+    fn run_after(set: &Handle, value: V, run: &mut Run<V>) -> bool;
+    fn run_before(set: &Handle, value: V, run: &mut Run<V>) -> bool;
+    fn first_gap(set: &Handle, from: V, len: P, gap: &mut Run<V>) -> bool;
     fn complement(out: &mut Handle, set: &Handle) -> u32;
     fn clone(out: &mut Handle, set: &Handle) -> u32;
     fn sets_add(list: &mut List, set: &Handle) -> u32;
@@ -172,6 +216,6 @@ calls! {
     fn order(left: &Handle, right: &Handle) -> i32;
     fn is_subset(left: &Handle, right: &Handle) -> bool;
     fn is_disjoint(left: &Handle, right: &Handle) -> bool;
-    fn from_text(out: &mut Handle, text: *const u8, length: usize) -> u32;
-    fn runs_in(set: &Handle, first: T, last: T, runs: *mut Run<T>, count: usize) -> usize;
+    fn from_runs(out: &mut Handle, runs: *const Run<V>, count: usize) -> u32;
+    fn runs_in(set: &Handle, first: V, last: V, runs: *mut Run<V>, count: usize) -> usize;
 }

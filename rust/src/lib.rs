@@ -1,4 +1,4 @@
-//! Sets of `u32` or of `u64`, kept as sorted runs that never touch.
+//! Sets of integers, characters or IP addresses, kept as sorted runs that never touch.
 //!
 //! This crate calls the C library that `tools/c/build` makes. Each function of that library does
 //! what its header, `include/range_set.h`, says, and this is proved. This crate itself is only
@@ -10,7 +10,7 @@
 //! ```
 //! use range_set::RangeSet;
 //!
-//! let mut open = RangeSet::<u32>::from_iter([9..=11, 13..=18]);
+//! let mut open = RangeSet::<u16>::from_iter([9..=11, 13..=18]);
 //! assert!(open.insert(12)); // joins both runs
 //! let busy = RangeSet::from(10..=14);
 //! let free = &open - &busy;
@@ -20,17 +20,36 @@
 //! assert!(free.runs().eq([9..=9, 15..=18]));
 //! ```
 //!
+//! # Element types
+//!
+//! A set can hold values of `i8` to `i128`, `u8` to `u128`, `isize`, `usize`, `char`, `Ipv4Addr`
+//! and `Ipv6Addr`, and of each type of your own that implements [`Element`] by two functions. No
+//! other type has sets:
+//!
+//! ```compile_fail,E0277
+//! let set = range_set::RangeSet::<f64>::new();
+//! ```
+//!
 //! # If an allocation fails
 //!
 //! A call whose name begins with `try_` returns [`AllocError`] if an allocation fails, and
-//! `from_str` returns [`ParseError`]. Every other call that allocates panics, so that a program may catch the panic and go on. Either way, each
-//! set that was passed by reference is unchanged, except that `extend` may have added some values.
+//! `from_str` returns [`ParseError`]. Every other call that allocates panics, so that a program may
+//! catch the panic and go on. Either way, each set that was passed by reference is unchanged, except
+//! that `extend` may have added some values.
+//!
+//! # Bad values and bounds
+//!
+//! Rust's types refuse a value that is too great. A range whose end is below its start has no
+//! values, as in the standard library: inserting it changes nothing.
 //!
 //! # How to link the library
 //!
-//! Add this crate by its path, as in `range_set = { path = "wooljasper/rust" }`. Its build script
-//! looks for the C library in the folder that the variable `RANGE_SET_LIB_DIR` names. If that is
-//! not set, it asks `pkg-config`, and then looks in `out/lib` of the repository.
+//! Add this crate by its path, as in `range_set = { path = "wooljasper/rust" }`. For `Serialize`
+//! and `Deserialize`, write `wooljasper/rust/serde` instead: this is the same crate, which depends
+//! on the crate `serde`.
+//!
+//! The build script looks for the C library in the folder that the variable `RANGE_SET_LIB_DIR`
+//! names. If that is not set, it asks `pkg-config`, and then looks in `out/lib` of the repository.
 //!
 //! It links the static library if it finds both. To choose, set `RANGE_SET_LINK` to `static` or to
 //! `shared`. `cargo run` and `cargo test` find the shared library, also for a crate that depends on
@@ -42,47 +61,85 @@
 //! The types guarantee what the header asks of its callers, except for two duties. The program has
 //! one allocator for `malloc`, `realloc` and `free`. It does not call the library from a signal
 //! handler, or from the forked child of a process with threads.
+#![warn(missing_docs)]
 
 mod algebra;
+mod build;
 mod calls;
 mod changes;
-mod integer;
+mod count;
+mod element;
+mod gaps;
 mod iterators;
 mod look_up;
 mod many;
+mod names;
+mod operators;
+#[cfg(feature = "serde")]
+mod serde;
+mod span;
 mod std_traits;
 mod text;
+mod width;
 
 use core::fmt;
 use core::marker::PhantomData;
-use core::ops::RangeInclusive;
 
-pub use integer::Integer;
-pub use iterators::{Gaps, IntoIter, Iter, Runs};
+pub use count::{Count, TooGreat};
+pub use element::Element;
+// The name that range-set-blaze has for it. Messages of the compiler then keep the other one.
+#[doc(hidden)]
+pub use element::Element as Integer;
+pub use iterators::{Gaps, IntoIter, IntoRuns, Iter, IterIn, Runs, RunsIn};
+pub use many::Multiway;
 pub use text::ParseError;
+pub use width::Width;
 
-/// A set of `u32` or of `u64`, kept as sorted runs that never touch.
-///
-/// Threads may read a set at the same time, and a set may pass from one thread to another.
-pub struct RangeSet<T: Integer> {
-    handle: calls::Handle,
-    values: PhantomData<T>,
+use width::Number;
+
+/// What most programs use, for `use range_set::prelude::*`.
+pub mod prelude {
+    pub use crate::{Element, Multiway, RangeSet};
 }
 
-impl<T: Integer> RangeSet<T> {
+/// The type of numbers of members: `u128`, or [`Count`] for element types with 128 bits.
+pub type Len<T> = <<T as Element>::Rank as Width>::Len;
+
+/// A set of values, kept as sorted runs that never touch.
+///
+/// [`Element`] says which types of values there are. Threads may read a set at the same time, and
+/// a set may pass from one thread to another.
+pub struct RangeSet<T> {
+    handle: calls::Handle,
+    /// The function of the library that frees the memory of the handle.
+    free: extern "C" fn(&mut calls::Handle),
+    /// A set makes values from their ranks, and holds none.
+    values: PhantomData<fn() -> T>,
+}
+
+impl<T: Element> RangeSet<T> {
+    /// The functions of the library for the ranks of the values.
+    const CALLS: &'static calls::CallsOf<T::Rank> = <T::Rank as Number>::CALLS;
+
     /// Returns the empty set, which owns no memory.
+    ///
+    /// ```
+    /// let set = range_set::RangeSet::<i64>::new();
+    /// assert!(set.is_empty());
+    /// ```
     #[must_use]
     pub const fn new() -> Self {
         RangeSet {
             handle: calls::Handle::empty(),
+            free: Self::CALLS.free,
             values: PhantomData,
         }
     }
 }
 
-impl<T: Integer> Drop for RangeSet<T> {
+impl<T> Drop for RangeSet<T> {
     fn drop(&mut self) {
-        (T::CALLS.free)(&mut self.handle);
+        (self.free)(&mut self.handle);
     }
 }
 
@@ -111,8 +168,4 @@ fn changed(answer: u32) -> Result<bool, AllocError> {
 #[track_caller]
 fn allocated<V>(result: Result<V, AllocError>) -> V {
     result.unwrap_or_else(|error| panic!("{error}"))
-}
-
-fn range_of<T: Integer>(run: calls::Run<T>) -> RangeInclusive<T> {
-    run.first..=run.last
 }

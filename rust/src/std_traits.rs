@@ -1,20 +1,21 @@
 //! The traits of the standard library, except operators and iterators.
 
 use core::cmp::Ordering;
-use core::fmt;
 use core::hash::{Hash, Hasher};
-use core::ops::RangeInclusive;
+use core::ops::{Range, RangeInclusive};
 
-use crate::{allocated, changed, Integer, RangeSet};
+use crate::build::Gathered;
+use crate::span::{span_of, Span};
+use crate::{allocated, changed, Element, RangeSet};
 
-impl<T: Integer> Default for RangeSet<T> {
+impl<T: Element> Default for RangeSet<T> {
     fn default() -> Self {
         Self::new()
     }
 }
 
 /// Panics if an allocation fails. [`RangeSet::try_clone`] returns an error instead.
-impl<T: Integer> Clone for RangeSet<T> {
+impl<T: Element> Clone for RangeSet<T> {
     #[track_caller]
     fn clone(&self) -> Self {
         allocated(self.try_clone())
@@ -22,120 +23,103 @@ impl<T: Integer> Clone for RangeSet<T> {
 
     #[track_caller]
     fn clone_from(&mut self, source: &Self) {
-        allocated(changed((T::CALLS.clone)(&mut self.handle, &source.handle)));
+        allocated(changed((Self::CALLS.clone)(
+            &mut self.handle,
+            &source.handle,
+        )));
     }
 }
 
-/// Writes the runs, as in `1..=5, 10..=20`.
-impl<T: Integer> fmt::Display for RangeSet<T> {
-    fn fmt(&self, f: &mut fmt::Formatter<'_>) -> fmt::Result {
-        for (place, run) in self.runs().enumerate() {
-            let separator = if place == 0 { "" } else { ", " };
-            write!(f, "{separator}{}..={}", run.start(), run.end())?;
-        }
-        Ok(())
-    }
-}
-
-/// Writes what `Display` writes.
-impl<T: Integer> fmt::Debug for RangeSet<T> {
-    fn fmt(&self, f: &mut fmt::Formatter<'_>) -> fmt::Result {
-        fmt::Display::fmt(self, f)
-    }
-}
-
-impl<T: Integer> PartialEq for RangeSet<T> {
+impl<T: Element> PartialEq for RangeSet<T> {
     fn eq(&self, other: &Self) -> bool {
         // SAFETY: the handles are of two sets.
-        self.is_same(other) || unsafe { (T::CALLS.equal)(&self.handle, &other.handle) }
+        self.is_same(other) || unsafe { (Self::CALLS.equal)(&self.handle, &other.handle) }
     }
 }
 
-impl<T: Integer> Eq for RangeSet<T> {}
+impl<T: Element> Eq for RangeSet<T> {}
 
 /// Compares sets as the ascending lists of their members.
-impl<T: Integer> Ord for RangeSet<T> {
+impl<T: Element> Ord for RangeSet<T> {
     fn cmp(&self, other: &Self) -> Ordering {
         if self.is_same(other) {
             return Ordering::Equal;
         }
         // SAFETY: the handles are of two sets.
-        unsafe { (T::CALLS.order)(&self.handle, &other.handle) }.cmp(&0)
+        unsafe { (Self::CALLS.order)(&self.handle, &other.handle) }.cmp(&0)
     }
 }
 
-impl<T: Integer> PartialOrd for RangeSet<T> {
+impl<T: Element> PartialOrd for RangeSet<T> {
     fn partial_cmp(&self, other: &Self) -> Option<Ordering> {
         Some(self.cmp(other))
     }
 }
 
-impl<T: Integer> Hash for RangeSet<T> {
+impl<T: Element> Hash for RangeSet<T> {
     fn hash<H: Hasher>(&self, state: &mut H) {
         self.run_count().hash(state);
-        self.runs().for_each(|run| run.hash(state));
-    }
-}
-
-impl<T: Integer> Extend<T> for RangeSet<T> {
-    fn extend<I: IntoIterator<Item = T>>(&mut self, values: I) {
-        for value in values {
-            self.insert(value);
+        let mut runs = self.spans_in(Span::of_type::<T>());
+        while let Some(run) = runs.next(self) {
+            (run.first, run.last).hash(state);
         }
     }
 }
 
-impl<'a, T: Integer> Extend<&'a T> for RangeSet<T> {
-    fn extend<I: IntoIterator<Item = &'a T>>(&mut self, values: I) {
-        self.extend(values.into_iter().copied());
-    }
-}
-
-impl<T: Integer> Extend<RangeInclusive<T>> for RangeSet<T> {
-    fn extend<I: IntoIterator<Item = RangeInclusive<T>>>(&mut self, ranges: I) {
-        for range in ranges {
-            self.insert_range(range);
-        }
-    }
-}
-
-impl<'a, T: Integer> Extend<&'a RangeInclusive<T>> for RangeSet<T> {
-    fn extend<I: IntoIterator<Item = &'a RangeInclusive<T>>>(&mut self, ranges: I) {
-        self.extend(ranges.into_iter().cloned());
-    }
-}
-
-/// Values, ranges, and references to either make a set. They may come in any order, and more than
-/// once.
-macro_rules! from_iterator {
-    ($($item:ty $(, $lifetime:lifetime)?;)*) => {
+/// Values, ranges, and references to either make a set, or extend one. They may come in any order,
+/// and more than once.
+macro_rules! collected {
+    ($($item:ty $(, $lifetime:lifetime)?; $given:ident => $range:expr;)*) => {
         $(
-            impl<$($lifetime,)? T: Integer> FromIterator<$item> for RangeSet<T> {
+            impl<$($lifetime,)? T: Element> FromIterator<$item> for RangeSet<T> {
+                #[track_caller]
                 fn from_iter<I: IntoIterator<Item = $item>>(items: I) -> Self {
-                    let mut set = Self::new();
-                    set.extend(items);
-                    set
+                    let mut gathered = Gathered::new();
+                    for $given in items {
+                        allocated(gathered.add(span_of($range)));
+                    }
+                    allocated(gathered.finish())
+                }
+            }
+
+            impl<$($lifetime,)? T: Element> Extend<$item> for RangeSet<T> {
+                #[track_caller]
+                fn extend<I: IntoIterator<Item = $item>>(&mut self, items: I) {
+                    for $given in items {
+                        self.insert_range($range);
+                    }
                 }
             }
         )*
     };
 }
 
-from_iterator! {
-    T;
-    &'a T, 'a;
-    RangeInclusive<T>;
-    &'a RangeInclusive<T>, 'a;
+collected! {
+    T; value => value..=value;
+    &'a T, 'a; value => *value..=*value;
+    RangeInclusive<T>; range => range;
+    &'a RangeInclusive<T>, 'a; range => range.clone();
+    Range<T>; range => range;
+    &'a Range<T>, 'a; range => range.clone();
 }
 
-impl<T: Integer, const N: usize> From<[T; N]> for RangeSet<T> {
+impl<T: Element, const N: usize> From<[T; N]> for RangeSet<T> {
     fn from(values: [T; N]) -> Self {
         values.into_iter().collect()
     }
 }
 
-impl<T: Integer> From<RangeInclusive<T>> for RangeSet<T> {
+impl<T: Element> From<RangeInclusive<T>> for RangeSet<T> {
     fn from(range: RangeInclusive<T>) -> Self {
+        let mut set = Self::new();
+        set.insert_range(range);
+        set
+    }
+}
+
+impl<T: Element> From<Range<T>> for RangeSet<T> {
+    #[track_caller]
+    fn from(range: Range<T>) -> Self {
         let mut set = Self::new();
         set.insert_range(range);
         set

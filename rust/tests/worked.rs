@@ -4,31 +4,35 @@ mod common;
 
 use std::collections::HashSet;
 
-use common::{below_greatest, Value};
+use common::{below_greatest, Unsigned};
 use range_set::{ParseError, RangeSet};
 
 /// Returns the set of small ranges.
-fn set<T: Value>(ranges: &[(u8, u8)]) -> RangeSet<T> {
+fn set<T: Unsigned>(ranges: &[(u8, u8)]) -> RangeSet<T> {
     ranges
         .iter()
         .map(|&(first, last)| T::from(first)..=T::from(last))
         .collect()
 }
 
-/// Runs a generic test for both types of values.
-macro_rules! for_both {
+/// Runs a generic test for each unsigned type.
+macro_rules! for_unsigned {
     ($($name:ident)*) => {
         $(
             #[test]
             fn $name() {
+                checks::$name::<u8>();
+                checks::$name::<u16>();
                 checks::$name::<u32>();
                 checks::$name::<u64>();
+                checks::$name::<u128>();
+                checks::$name::<usize>();
             }
         )*
     };
 }
 
-for_both! {
+for_unsigned! {
     text text_of_other_forms combinations assignments any_number a_set_beside_itself comparisons equal_sets_hash_alike changes
     bounds look_ups searches gaps_beside_a_value iterators_from_both_ends members_from_both_ends many_runs
     ends_of_the_type made_from_values_and_ranges
@@ -38,7 +42,7 @@ for_both! {
 fn a_range_that_was_iterated_to_its_end_has_no_values() {
     let mut done = 5..=5_u64;
     done.next();
-    let mut set = RangeSet::from(4..=6);
+    let mut set = RangeSet::from(4..=6_u64);
     assert!(!set.remove_range(done.clone()) && set.len_in(done.clone()) == 0);
     assert!(RangeSet::from(done).is_empty());
 }
@@ -46,7 +50,7 @@ fn a_range_that_was_iterated_to_its_end_has_no_values() {
 mod checks {
     use super::*;
 
-    pub fn text<T: Value>() {
+    pub fn text<T: Unsigned>() {
         assert_eq!(RangeSet::<T>::new().to_string(), "");
         let some = set::<T>(&[(10, 20), (1, 5)]);
         assert_eq!(some.to_string(), "1..=5, 10..=20");
@@ -77,11 +81,11 @@ mod checks {
         ],
     ];
 
-    fn read<T: Value>(text: &str) -> RangeSet<T> {
+    fn read<T: Unsigned>(text: &str) -> RangeSet<T> {
         text.parse().unwrap()
     }
 
-    pub fn text_of_other_forms<T: Value>() {
+    pub fn text_of_other_forms<T: Unsigned>() {
         let some = set::<T>(&[(1, 5), (7, 7)]);
         for text in ["1..=5, 7..=7", " 7 ,3..=5,\t+1..=4\n", "7,5,4,3,2,1,9..=8"] {
             assert_eq!(text.parse().as_ref(), Ok(&some), "{text:?}");
@@ -89,25 +93,27 @@ mod checks {
         assert_eq!(" ".parse(), Ok(set::<T>(&[])));
         let greatest = RangeSet::from(T::MAX..=T::MAX);
         assert_eq!(greatest.to_string().parse(), Ok(greatest));
-        for text in [
-            "1..5",
-            "1..=",
-            ",",
-            "-1",
-            "x",
-            "1 2",
-            "18446744073709551616",
-            "\u{e9}",
+        for (text, position) in [
+            ("1..5", 3),
+            ("1..=", 4),
+            ("1..=2..=3", 5),
+            (",", 0),
+            ("1,", 2),
+            ("-1", 1),
+            ("x", 0),
+            ("1 2", 2),
+            ("7, 340282366920938463463374607431768211456", 41),
+            ("4\u{e9}", 1),
         ] {
-            assert_eq!(
-                text.parse::<RangeSet<T>>(),
-                Err(ParseError::BadText),
-                "{text:?}"
-            );
+            let Err(ParseError::BadText { position: found }) = text.parse::<RangeSet<T>>() else {
+                panic!("{text:?} is read");
+            };
+            let too_great = text.len() > 40 && found > 3 && found < position;
+            assert!(found == position || too_great, "{text:?}: {found}");
         }
     }
 
-    pub fn combinations<T: Value>() {
+    pub fn combinations<T: Unsigned>() {
         for row in COMBINED {
             let [a, b, either, both, only_left, only_one] = row.map(read::<T>);
             assert_eq!(&a | &b, either, "{row:?}");
@@ -122,7 +128,7 @@ mod checks {
         }
     }
 
-    pub fn assignments<T: Value>() {
+    pub fn assignments<T: Unsigned>() {
         for row in COMBINED {
             let [a, b, either, both, only_left, only_one] = row.map(read::<T>);
             let mut changed = a.clone();
@@ -146,7 +152,7 @@ mod checks {
         }
     }
 
-    pub fn any_number<T: Value>() {
+    pub fn any_number<T: Unsigned>() {
         let sets = ["1..=5", "4..=9", "5..=5, 9..=12"].map(read::<T>);
         assert_eq!(RangeSet::union_of(&sets), read("1..=12"));
         assert_eq!(RangeSet::intersection_of(&sets), read("5..=5"));
@@ -168,7 +174,7 @@ mod checks {
     }
 
     #[allow(clippy::eq_op)]
-    pub fn a_set_beside_itself<T: Value>() {
+    pub fn a_set_beside_itself<T: Unsigned>() {
         for a in [set::<T>(&[]), set(&[(1, 4), (8, 13)])] {
             assert_eq!(&a | &a, a);
             assert_eq!(&a & &a, a);
@@ -178,7 +184,7 @@ mod checks {
         }
     }
 
-    pub fn comparisons<T: Value>() {
+    pub fn comparisons<T: Unsigned>() {
         // As lists of members: none; 0; 0, 1; 0, 1, 2, 3; 0, 1, 3; 0, 2; 1.
         let ascending = [
             set::<T>(&[]),
@@ -204,13 +210,13 @@ mod checks {
         assert!(small.is_disjoint(&set(&[(4, 6)])) && !small.is_disjoint(&set(&[(5, 7)])));
     }
 
-    pub fn equal_sets_hash_alike<T: Value>() {
+    pub fn equal_sets_hash_alike<T: Unsigned>() {
         let mut sets = HashSet::from([set::<T>(&[(1, 5)]), set(&[(1, 2), (4, 5)])]);
         assert!(!sets.insert(set(&[(1, 3), (4, 5)])));
         assert!(sets.insert(set(&[(1, 4)])));
     }
 
-    pub fn changes<T: Value>() {
+    pub fn changes<T: Unsigned>() {
         let mut a = RangeSet::<T>::default();
         assert!(a.insert(T::from(3)) && !a.insert(T::from(3)));
         assert!(a.insert_range(T::from(5)..=T::from(9)) && a.insert(T::from(4)));
@@ -225,7 +231,7 @@ mod checks {
         assert!(a.is_empty() && !a.remove_range(..));
     }
 
-    pub fn bounds<T: Value>() {
+    pub fn bounds<T: Unsigned>() {
         let all = !RangeSet::<T>::new();
         let mut a = RangeSet::new();
         assert!(!a.insert_range(T::from(5)..T::from(5)));
@@ -233,7 +239,7 @@ mod checks {
         let reversed = T::from(5)..=T::from(4);
         assert!(!a.insert_range(reversed.clone()) && !a.insert_range(..T::MIN));
         assert!(a.contains_range(reversed.clone()) && all.is_disjoint_range(reversed.clone()));
-        assert_eq!(all.len_in(reversed), 0);
+        assert_eq!(all.len_in(reversed), 0_u128);
         let after_last = (
             std::ops::Bound::Excluded(T::MAX),
             std::ops::Bound::Unbounded,
@@ -245,41 +251,32 @@ mod checks {
         assert!(a.remove_range(..=T::from(2)) && a.to_string() == "3..=6");
     }
 
-    pub fn look_ups<T: Value>() {
+    pub fn look_ups<T: Unsigned>() {
         let a = set::<T>(&[(1, 4), (8, 13)]);
         assert!(a.contains(T::from(4)) && !a.contains(T::from(5)));
         assert!(a.contains_range(T::from(8)..=T::from(13)));
         assert!(!a.contains_range(T::from(4)..=T::from(8)));
         assert!(a.is_disjoint_range(T::from(5)..T::from(8)));
         assert!(!a.is_disjoint_range(T::from(5)..=T::from(8)));
-        assert_eq!(
-            (a.len(), a.run_count(), a.len_in(T::from(4)..T::from(10))),
-            (10, 2, 3)
-        );
+        assert_eq!((a.len(), a.run_count()), (10_u64.into(), 2));
+        assert_eq!(a.len_in(T::from(4)..T::from(10)), 3_u128);
         assert_eq!((a.first(), a.last()), (Some(T::from(1)), Some(T::from(13))));
-        assert_eq!(
-            (a.rank(T::from(0)), a.rank(T::from(9)), a.rank(T::MAX)),
-            (0, 5, 10)
-        );
-        assert_eq!(
-            (a.nth(0), a.nth(4), a.nth(9)),
-            (a.first(), Some(T::from(8)), a.last())
-        );
-        assert_eq!((a.nth(10), a.nth(u64::MAX)), (None, None));
+        let ranks: [u128; 3] = [T::MIN, T::from(9), T::MAX].map(|value| a.rank(value));
+        assert_eq!(ranks, [0, 5, 10]);
+        let places = [0, 4, 9, 10, u128::MAX].map(|n| a.nth(n));
+        assert_eq!(places, [a.first(), Some(T::from(8)), a.last(), None, None]);
         let none = RangeSet::<T>::new();
-        assert_eq!(
-            (none.len(), none.first(), none.last(), none.nth(0)),
-            (0, None, None, None)
-        );
+        assert_eq!(none.len(), 0_u128);
+        assert_eq!((none.first(), none.last(), none.nth(0)), (None, None, None));
     }
 
-    pub fn gaps_beside_a_value<T: Value>() {
+    pub fn gaps_beside_a_value<T: Unsigned>() {
         let a = set::<T>(&[(1, 4), (8, 13)]);
         let low = T::MIN..=T::MIN;
         let middle = T::from(5)..=T::from(7);
         let high = T::from(14)..=T::MAX;
         for (value, next, prev, after, before) in [
-            (0, Some(&low), Some(&low), Some(&middle), None),
+            (0_u8, Some(&low), Some(&low), Some(&middle), None),
             (3, Some(&middle), Some(&low), Some(&middle), Some(&low)),
             (6, Some(&middle), Some(&middle), Some(&high), Some(&low)),
             (13, Some(&high), Some(&middle), Some(&high), Some(&middle)),
@@ -296,7 +293,10 @@ mod checks {
             assert_eq!((all.next_gap(value), all.prev_gap(value)), (None, None));
             assert_eq!((all.gap_after(value), all.gap_before(value)), (None, None));
             assert_eq!(none.next_gap(value), Some(T::MIN..=T::MAX));
-            assert_eq!((none.gap_after(value), none.gap_before(value)), (None, None));
+            assert_eq!(
+                (none.gap_after(value), none.gap_before(value)),
+                (None, None)
+            );
         }
         assert_eq!((none.first_run(), none.last_run()), (None, None));
         assert_eq!(a.first_run(), Some(T::from(1)..=T::from(4)));
@@ -304,7 +304,7 @@ mod checks {
         assert!(a.ranges().eq(a.runs()));
     }
 
-    pub fn searches<T: Value>() {
+    pub fn searches<T: Unsigned>() {
         let a = set::<T>(&[(1, 4), (8, 13)]);
         let (low, high) = (T::from(1)..=T::from(4), T::from(8)..=T::from(13));
         assert_eq!(a.run_or_gap(T::from(2)), (low.clone(), true));
@@ -321,11 +321,13 @@ mod checks {
         assert_eq!(a.run_before(T::from(4)), None);
         assert_eq!(a.first_gap(T::from(2), 3), Some(T::from(5)..=T::from(7)));
         assert_eq!(a.first_gap(T::from(6), 3), Some(T::from(14)..=T::MAX));
-        assert_eq!((!&a).first_gap(T::from(5), 6), Some(high));
+        assert_eq!((!&a).first_gap(T::from(5), 6), Some(high.clone()));
         assert_eq!((!&a).first_gap(T::from(5), 7), None);
+        assert_eq!(a.first_run_of(T::from(1), 6), Some(high));
+        assert_eq!(a.first_run_of(T::from(9), 6), None);
     }
 
-    pub fn iterators_from_both_ends<T: Value>() {
+    pub fn iterators_from_both_ends<T: Unsigned>() {
         let a = set::<T>(&[(1, 4), (8, 13), (20, 20)]);
         let mut runs = a.runs();
         assert_eq!(runs.len(), 3);
@@ -343,7 +345,7 @@ mod checks {
         assert_eq!((gaps.next(), gaps.next_back(), gaps.len()), (None, None, 0));
     }
 
-    pub fn members_from_both_ends<T: Value>() {
+    pub fn members_from_both_ends<T: Unsigned>() {
         let a = set::<T>(&[(1, 4), (8, 9)]);
         let members = [1, 2, 3, 4, 8, 9].map(T::from);
         assert!(a.iter().eq(members) && a.iter().rev().eq(members.into_iter().rev()));
@@ -363,7 +365,7 @@ mod checks {
 
     // More runs than a walk reads at once: the first, then each number of them from the back, then
     // the others.
-    pub fn many_runs<T: Value>() {
+    pub fn many_runs<T: Unsigned>() {
         let runs: Vec<_> = (0..40)
             .map(|i| T::from(3 * i)..=T::from(3 * i + 1))
             .collect();
@@ -383,10 +385,12 @@ mod checks {
         assert!(a.clone().into_iter().eq(a.iter()));
     }
 
-    pub fn ends_of_the_type<T: Value>() {
+    pub fn ends_of_the_type<T: Unsigned>() {
         let none = RangeSet::<T>::new();
         let all = !&none;
-        assert_eq!(all.len() - 1, all.rank(T::MAX).into());
+        let below = all.rank(T::MAX);
+        assert_eq!(all.len_in(..T::MAX), below);
+        assert!(all.len() > below && all.is_universal() && !none.is_universal());
         assert_eq!(
             (all.first(), all.last(), all.run_count()),
             (Some(T::MIN), Some(T::MAX), 1)
@@ -399,10 +403,8 @@ mod checks {
             (all.first(), all.last())
         );
         assert_eq!(all.run_or_gap(T::MAX), (T::MIN..=T::MAX, true));
-        assert_eq!(
-            (all.run_after(T::MIN), all.first_gap(T::MIN, 1)),
-            (None, None)
-        );
+        let gap = all.first_gap(T::MIN, 1);
+        assert_eq!((all.run_after(T::MIN), gap), (None, None));
 
         let ends = RangeSet::from([T::MIN, below_greatest(1), T::MAX]);
         assert_eq!(
@@ -414,7 +416,7 @@ mod checks {
         assert_eq!(!!&ends, ends);
     }
 
-    pub fn made_from_values_and_ranges<T: Value>() {
+    pub fn made_from_values_and_ranges<T: Unsigned>() {
         let values = [7, 1, 3, 2, 8, 3].map(T::from);
         let ranges = [
             T::from(7)..=T::from(8),

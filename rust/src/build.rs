@@ -1,0 +1,230 @@
+//! Calls that make a set of many values or ranges.
+
+use core::ops::RangeInclusive;
+
+use crate::calls::RunOf;
+use crate::span::{span_of, Span};
+use crate::{allocated, changed, AllocError, Element, RangeSet};
+
+impl<T: Element> RangeSet<T> {
+    /// Returns the set of all values of the type.
+    ///
+    /// ```
+    /// # use range_set::RangeSet;
+    /// assert_eq!(RangeSet::<u8>::universe().to_string(), "0..=255");
+    /// ```
+    ///
+    /// # Panics
+    ///
+    /// Panics if an allocation fails. [`try_universe`](Self::try_universe) returns an error instead.
+    #[must_use]
+    #[track_caller]
+    pub fn universe() -> Self {
+        allocated(Self::try_universe())
+    }
+
+    /// Returns the set of all values of the type.
+    ///
+    /// ```
+    /// # use range_set::RangeSet;
+    /// assert_eq!(RangeSet::<i8>::try_universe()?.len(), 256);
+    /// # Ok::<(), range_set::AllocError>(())
+    /// ```
+    pub fn try_universe() -> Result<Self, AllocError> {
+        let mut all = Self::new();
+        all.try_insert_range(..)?;
+        Ok(all)
+    }
+
+    /// Returns the set of the values of ranges, which may come in any order, overlap and touch.
+    /// `collect` and `from_iter` do the same. A range whose end is below its start has no values.
+    ///
+    /// ```
+    /// # use range_set::RangeSet;
+    /// let set = RangeSet::from_runs([8..=9, 1..=3, 4..=5]);
+    /// assert_eq!(set.to_string(), "1..=5, 8..=9");
+    /// ```
+    ///
+    /// # Panics
+    ///
+    /// Panics if an allocation fails. [`try_from_runs`](Self::try_from_runs) returns an error
+    /// instead.
+    #[must_use]
+    #[track_caller]
+    pub fn from_runs(runs: impl IntoIterator<Item = RangeInclusive<T>>) -> Self {
+        allocated(Self::try_from_runs(runs))
+    }
+
+    /// Returns the set of the values of ranges, which may come in any order, overlap and touch.
+    ///
+    /// ```
+    /// # use range_set::RangeSet;
+    /// assert_eq!(RangeSet::try_from_runs([2..=3, 1..=1])?.to_string(), "1..=3");
+    /// # Ok::<(), range_set::AllocError>(())
+    /// ```
+    pub fn try_from_runs(
+        runs: impl IntoIterator<Item = RangeInclusive<T>>,
+    ) -> Result<Self, AllocError> {
+        let mut gathered = Gathered::new();
+        for run in runs {
+            gathered.add(span_of(run))?;
+        }
+        gathered.finish()
+    }
+
+    /// Returns the set of values, which may come in any order and more than once. `collect` and
+    /// `from_iter` do the same.
+    ///
+    /// ```
+    /// # use range_set::RangeSet;
+    /// assert_eq!(RangeSet::try_from_values([3, 1, 2])?.to_string(), "1..=3");
+    /// # Ok::<(), range_set::AllocError>(())
+    /// ```
+    pub fn try_from_values(values: impl IntoIterator<Item = T>) -> Result<Self, AllocError> {
+        let mut gathered = Gathered::new();
+        for value in values {
+            let rank = value.rank();
+            gathered.add(Span::new(rank, rank))?;
+        }
+        gathered.finish()
+    }
+
+    /// Removes the members for which a function returns false. It is called once for each member,
+    /// in ascending order. If it panics, the set is unchanged.
+    ///
+    /// ```
+    /// # use range_set::RangeSet;
+    /// let mut set = RangeSet::from(1..=9);
+    /// set.retain(|value| value % 4 > 1);
+    /// assert_eq!(set.to_string(), "2..=3, 6..=7");
+    /// ```
+    ///
+    /// # Panics
+    ///
+    /// Panics if an allocation fails. [`try_retain`](Self::try_retain) returns an error instead.
+    #[track_caller]
+    pub fn retain(&mut self, keep: impl FnMut(&T) -> bool) {
+        allocated(self.try_retain(keep));
+    }
+
+    /// Removes the members for which a function returns false. It is called once for each member,
+    /// in ascending order, until an allocation fails. If it panics, the set is unchanged.
+    ///
+    /// ```
+    /// # use range_set::RangeSet;
+    /// let mut set = RangeSet::from('a'..='f');
+    /// assert_eq!(set.try_retain(|value| "face".contains(*value)), Ok(()));
+    /// assert_eq!(set.to_string(), "'a'..='a', 'c'..='c', 'e'..='f'");
+    /// ```
+    pub fn try_retain(&mut self, mut keep: impl FnMut(&T) -> bool) -> Result<(), AllocError> {
+        *self = Self::try_from_values(self.iter().filter(|value| keep(value)))?;
+        Ok(())
+    }
+
+    /// Removes the runs for which a function returns false. It is called once for each run, in
+    /// ascending order. If it panics, the set is unchanged.
+    ///
+    /// ```
+    /// # use range_set::RangeSet;
+    /// let mut set = RangeSet::from_iter([1..=1, 3..=6, 9..=9]);
+    /// set.retain_runs(|run| run.start() < run.end());
+    /// assert_eq!(set.to_string(), "3..=6");
+    /// ```
+    ///
+    /// # Panics
+    ///
+    /// Panics if an allocation fails. [`try_retain_runs`](Self::try_retain_runs) returns an error
+    /// instead.
+    #[track_caller]
+    pub fn retain_runs(&mut self, keep: impl FnMut(&RangeInclusive<T>) -> bool) {
+        allocated(self.try_retain_runs(keep));
+    }
+
+    /// Removes the runs for which a function returns false. It is called once for each run, in
+    /// ascending order, until an allocation fails. If it panics, the set is unchanged.
+    ///
+    /// ```
+    /// # use range_set::RangeSet;
+    /// let mut set = RangeSet::from_iter([1..=1, 3..=6]);
+    /// assert_eq!(set.try_retain_runs(|run| run.contains(&1)), Ok(()));
+    /// assert_eq!(set.to_string(), "1..=1");
+    /// ```
+    pub fn try_retain_runs(
+        &mut self,
+        mut keep: impl FnMut(&RangeInclusive<T>) -> bool,
+    ) -> Result<(), AllocError> {
+        *self = Self::try_from_runs(self.runs().filter(|run| keep(run)))?;
+        Ok(())
+    }
+}
+
+/// The least number of runs that are gathered before they are added.
+const ROOM: usize = 1024;
+
+/// A set, and runs that it does not have yet. They are added by one call for many, which takes
+/// less time than one for each. There are at most as many as the set has runs, or a few.
+pub struct Gathered<T: Element> {
+    set: RangeSet<T>,
+    runs: Vec<RunOf<T::Rank>>,
+    /// The last run, which later ones may extend.
+    last: Option<Span<T::Rank>>,
+}
+
+impl<T: Element> Gathered<T> {
+    pub fn new() -> Self {
+        Gathered {
+            set: RangeSet::new(),
+            runs: Vec::new(),
+            last: None,
+        }
+    }
+
+    /// Adds the values of ranks, if there are any.
+    pub fn add(&mut self, span: Option<Span<T::Rank>>) -> Result<(), AllocError> {
+        let Some(span) = span else {
+            return Ok(());
+        };
+        if self.last.as_mut().is_some_and(|last| last.join(span)) {
+            return Ok(());
+        }
+        if self.runs.len() >= ROOM.max(self.set.run_count()) {
+            self.flush()?;
+        }
+        if let Some(last) = self.last.replace(span) {
+            self.push(last)?;
+        }
+        Ok(())
+    }
+
+    /// Returns the set of all values that were added.
+    pub fn finish(mut self) -> Result<RangeSet<T>, AllocError> {
+        if let Some(last) = self.last {
+            self.push(last)?;
+        }
+        self.flush()?;
+        Ok(self.set)
+    }
+
+    fn push(&mut self, span: Span<T::Rank>) -> Result<(), AllocError> {
+        self.runs.try_reserve(1).map_err(|_| AllocError)?;
+        self.runs.push(span.to_run());
+        Ok(())
+    }
+
+    fn flush(&mut self) -> Result<(), AllocError> {
+        let (runs, count) = (self.runs.as_ptr(), self.runs.len());
+        // SAFETY: the array is a vector with so many elements.
+        let call = |out: &mut _| unsafe { (RangeSet::<T>::CALLS.from_runs)(out, runs, count) };
+        let made = RangeSet::built(call)?;
+        if self.set.is_empty() {
+            self.set = made;
+        } else {
+            changed((RangeSet::<T>::CALLS.union_with)(
+                &mut self.set.handle,
+                &made.handle,
+            ))?;
+        }
+        self.runs.clear();
+        Ok(())
+    }
+}

@@ -1,0 +1,48 @@
+//! The traits of the crate `serde`: a set is the list of its runs as pairs.
+
+use core::fmt;
+use core::marker::PhantomData;
+
+use serde::de::{Error, SeqAccess, Visitor};
+use serde::{Deserialize, Deserializer, Serialize, Serializer};
+
+use crate::build::Gathered;
+use crate::span::Span;
+use crate::{Element, RangeSet};
+
+/// Writes the runs as pairs of their first and last values, as in `[[1,5],[10,20]]`.
+impl<T: Element + Serialize> Serialize for RangeSet<T> {
+    fn serialize<S: Serializer>(&self, serializer: S) -> Result<S::Ok, S::Error> {
+        serializer.collect_seq(self.runs().map(|run| run.into_inner()))
+    }
+}
+
+/// Reads pairs of first and last values, which may come in any order, overlap and touch. A pair
+/// whose last value is below its first is an error.
+impl<'de, T: Element + Deserialize<'de>> Deserialize<'de> for RangeSet<T> {
+    fn deserialize<D: Deserializer<'de>>(deserializer: D) -> Result<Self, D::Error> {
+        deserializer.deserialize_seq(Pairs(PhantomData))
+    }
+}
+
+struct Pairs<T>(PhantomData<T>);
+
+impl<'de, T: Element + Deserialize<'de>> Visitor<'de> for Pairs<T> {
+    type Value = RangeSet<T>;
+
+    fn expecting(&self, f: &mut fmt::Formatter<'_>) -> fmt::Result {
+        f.write_str("a list of pairs, each of the first and the last value of a run")
+    }
+
+    fn visit_seq<A: SeqAccess<'de>>(self, mut pairs: A) -> Result<RangeSet<T>, A::Error> {
+        let mut gathered = Gathered::new();
+        while let Some((first, last)) = pairs.next_element::<(T, T)>()? {
+            let span = Span::new(first.rank(), last.rank());
+            if span.is_none() {
+                return Err(Error::custom("the last value of a pair is below the first"));
+            }
+            gathered.add(span).map_err(Error::custom)?;
+        }
+        gathered.finish().map_err(Error::custom)
+    }
+}
