@@ -8,7 +8,7 @@ use crate::width::Number;
 use crate::{allocated, changed, AllocError, Element, RangeSet};
 
 /// Calls that change a set.
-impl<T: Element> RangeSet<T> {
+impl<T> RangeSet<T> {
     /// Adds all members of another set and returns whether one of them was new.
     ///
     /// ```
@@ -23,7 +23,10 @@ impl<T: Element> RangeSet<T> {
     /// Panics if an allocation fails. [`try_union_with`](Self::try_union_with) returns an error
     /// instead.
     #[track_caller]
-    pub fn union_with(&mut self, other: &Self) -> bool {
+    pub fn union_with(&mut self, other: &Self) -> bool
+    where
+        T: Element,
+    {
         allocated(self.try_union_with(other))
     }
 
@@ -35,7 +38,10 @@ impl<T: Element> RangeSet<T> {
     /// let mut set = RangeSet::from(1..=3);
     /// assert_eq!(set.try_union_with(&RangeSet::from(3..=5)), Ok(true));
     /// ```
-    pub fn try_union_with(&mut self, other: &Self) -> Result<bool, AllocError> {
+    pub fn try_union_with(&mut self, other: &Self) -> Result<bool, AllocError>
+    where
+        T: Element,
+    {
         changed((Self::CALLS.union_with)(&mut self.handle, &other.handle))
     }
 
@@ -53,7 +59,10 @@ impl<T: Element> RangeSet<T> {
     /// Panics if an allocation fails. [`try_intersect_with`](Self::try_intersect_with) returns an error
     /// instead.
     #[track_caller]
-    pub fn intersect_with(&mut self, other: &Self) -> bool {
+    pub fn intersect_with(&mut self, other: &Self) -> bool
+    where
+        T: Element,
+    {
         allocated(self.try_intersect_with(other))
     }
 
@@ -65,7 +74,10 @@ impl<T: Element> RangeSet<T> {
     /// let mut set = RangeSet::from(1..=3);
     /// assert_eq!(set.try_intersect_with(&RangeSet::from(3..=5)), Ok(true));
     /// ```
-    pub fn try_intersect_with(&mut self, other: &Self) -> Result<bool, AllocError> {
+    pub fn try_intersect_with(&mut self, other: &Self) -> Result<bool, AllocError>
+    where
+        T: Element,
+    {
         changed((Self::CALLS.intersect_with)(
             &mut self.handle,
             &other.handle,
@@ -86,7 +98,10 @@ impl<T: Element> RangeSet<T> {
     /// Panics if an allocation fails. [`try_subtract`](Self::try_subtract) returns an error
     /// instead.
     #[track_caller]
-    pub fn subtract(&mut self, other: &Self) -> bool {
+    pub fn subtract(&mut self, other: &Self) -> bool
+    where
+        T: Element,
+    {
         allocated(self.try_subtract(other))
     }
 
@@ -98,7 +113,10 @@ impl<T: Element> RangeSet<T> {
     /// let mut set = RangeSet::from(1..=3);
     /// assert_eq!(set.try_subtract(&RangeSet::from(3..=5)), Ok(true));
     /// ```
-    pub fn try_subtract(&mut self, other: &Self) -> Result<bool, AllocError> {
+    pub fn try_subtract(&mut self, other: &Self) -> Result<bool, AllocError>
+    where
+        T: Element,
+    {
         changed((Self::CALLS.subtract)(&mut self.handle, &other.handle))
     }
 
@@ -117,7 +135,10 @@ impl<T: Element> RangeSet<T> {
     /// Panics if an allocation fails. [`try_xor_with`](Self::try_xor_with) returns an error
     /// instead.
     #[track_caller]
-    pub fn xor_with(&mut self, other: &Self) -> bool {
+    pub fn xor_with(&mut self, other: &Self) -> bool
+    where
+        T: Element,
+    {
         allocated(self.try_xor_with(other))
     }
 
@@ -129,13 +150,16 @@ impl<T: Element> RangeSet<T> {
     /// let mut set = RangeSet::from(1..=3);
     /// assert_eq!(set.try_xor_with(&RangeSet::from(3..=5)), Ok(true));
     /// ```
-    pub fn try_xor_with(&mut self, other: &Self) -> Result<bool, AllocError> {
+    pub fn try_xor_with(&mut self, other: &Self) -> Result<bool, AllocError>
+    where
+        T: Element,
+    {
         changed((Self::CALLS.xor_with)(&mut self.handle, &other.handle))
     }
 }
 
 /// Calls that return a new set.
-impl<T: Element> RangeSet<T> {
+impl<T> RangeSet<T> {
     /// Returns the values that are in at least one of two sets, as `&a | &b` does.
     ///
     /// ```
@@ -149,7 +173,10 @@ impl<T: Element> RangeSet<T> {
     /// Panics if an allocation fails. [`try_union`](Self::try_union) returns an error instead.
     #[must_use]
     #[track_caller]
-    pub fn union(&self, other: &Self) -> Self {
+    pub fn union(&self, other: &Self) -> Self
+    where
+        T: Element,
+    {
         allocated(self.try_union(other))
     }
 
@@ -161,7 +188,10 @@ impl<T: Element> RangeSet<T> {
     /// assert_eq!(a.try_union(&b)?.to_string(), "1..=5");
     /// # Ok::<(), range_set::AllocError>(())
     /// ```
-    pub fn try_union(&self, other: &Self) -> Result<Self, AllocError> {
+    pub fn try_union(&self, other: &Self) -> Result<Self, AllocError>
+    where
+        T: Element,
+    {
         if self.is_same(other) {
             return self.try_clone();
         }
@@ -183,7 +213,10 @@ impl<T: Element> RangeSet<T> {
     /// instead.
     #[must_use]
     #[track_caller]
-    pub fn intersection(&self, other: &Self) -> Self {
+    pub fn intersection(&self, other: &Self) -> Self
+    where
+        T: Element,
+    {
         allocated(self.try_intersection(other))
     }
 
@@ -195,7 +228,10 @@ impl<T: Element> RangeSet<T> {
     /// assert_eq!(a.try_intersection(&b)?.to_string(), "3..=3");
     /// # Ok::<(), range_set::AllocError>(())
     /// ```
-    pub fn try_intersection(&self, other: &Self) -> Result<Self, AllocError> {
+    pub fn try_intersection(&self, other: &Self) -> Result<Self, AllocError>
+    where
+        T: Element,
+    {
         if self.is_same(other) {
             return self.try_clone();
         }
@@ -217,7 +253,10 @@ impl<T: Element> RangeSet<T> {
     /// instead.
     #[must_use]
     #[track_caller]
-    pub fn difference(&self, other: &Self) -> Self {
+    pub fn difference(&self, other: &Self) -> Self
+    where
+        T: Element,
+    {
         allocated(self.try_difference(other))
     }
 
@@ -229,7 +268,10 @@ impl<T: Element> RangeSet<T> {
     /// assert_eq!(a.try_difference(&b)?.to_string(), "1..=2");
     /// # Ok::<(), range_set::AllocError>(())
     /// ```
-    pub fn try_difference(&self, other: &Self) -> Result<Self, AllocError> {
+    pub fn try_difference(&self, other: &Self) -> Result<Self, AllocError>
+    where
+        T: Element,
+    {
         if self.is_same(other) {
             return Ok(Self::new());
         }
@@ -251,7 +293,10 @@ impl<T: Element> RangeSet<T> {
     /// instead.
     #[must_use]
     #[track_caller]
-    pub fn symmetric_difference(&self, other: &Self) -> Self {
+    pub fn symmetric_difference(&self, other: &Self) -> Self
+    where
+        T: Element,
+    {
         allocated(self.try_symmetric_difference(other))
     }
 
@@ -263,7 +308,10 @@ impl<T: Element> RangeSet<T> {
     /// assert_eq!(a.try_symmetric_difference(&b)?.to_string(), "1..=2, 4..=5");
     /// # Ok::<(), range_set::AllocError>(())
     /// ```
-    pub fn try_symmetric_difference(&self, other: &Self) -> Result<Self, AllocError> {
+    pub fn try_symmetric_difference(&self, other: &Self) -> Result<Self, AllocError>
+    where
+        T: Element,
+    {
         if self.is_same(other) {
             return Ok(Self::new());
         }
@@ -286,7 +334,10 @@ impl<T: Element> RangeSet<T> {
     /// instead.
     #[must_use]
     #[track_caller]
-    pub fn complement(&self) -> Self {
+    pub fn complement(&self) -> Self
+    where
+        T: Element,
+    {
         allocated(self.try_complement())
     }
 
@@ -298,7 +349,10 @@ impl<T: Element> RangeSet<T> {
     /// assert_eq!(others.to_string(), "-128..=-1");
     /// # Ok::<(), range_set::AllocError>(())
     /// ```
-    pub fn try_complement(&self) -> Result<Self, AllocError> {
+    pub fn try_complement(&self) -> Result<Self, AllocError>
+    where
+        T: Element,
+    {
         let has_all_ranks = Span {
             first: T::Rank::LEAST,
             last: T::Rank::GREATEST,
@@ -316,12 +370,18 @@ impl<T: Element> RangeSet<T> {
     /// let set = RangeSet::from(1..=3);
     /// assert_eq!(set.try_clone(), Ok(set));
     /// ```
-    pub fn try_clone(&self) -> Result<Self, AllocError> {
+    pub fn try_clone(&self) -> Result<Self, AllocError>
+    where
+        T: Element,
+    {
         Self::built(|out| (Self::CALLS.clone)(out, &self.handle))
     }
 
     /// Returns the set that a call makes.
-    pub(crate) fn built(call: impl FnOnce(&mut Handle) -> u32) -> Result<Self, AllocError> {
+    pub(crate) fn built(call: impl FnOnce(&mut Handle) -> u32) -> Result<Self, AllocError>
+    where
+        T: Element,
+    {
         let mut out = Self::new();
         changed(call(&mut out.handle))?;
         Ok(out)
@@ -329,7 +389,7 @@ impl<T: Element> RangeSet<T> {
 }
 
 /// Calls that compare two sets.
-impl<T: Element> RangeSet<T> {
+impl<T> RangeSet<T> {
     /// Returns whether each member is a member of another set.
     ///
     /// ```
@@ -337,7 +397,10 @@ impl<T: Element> RangeSet<T> {
     /// assert!(RangeSet::from(2..=3).is_subset(&RangeSet::from(1..=5)));
     /// ```
     #[must_use]
-    pub fn is_subset(&self, other: &Self) -> bool {
+    pub fn is_subset(&self, other: &Self) -> bool
+    where
+        T: Element,
+    {
         // SAFETY: the handles are of two sets.
         self.is_same(other) || unsafe { (Self::CALLS.is_subset)(&self.handle, &other.handle) }
     }
@@ -349,7 +412,10 @@ impl<T: Element> RangeSet<T> {
     /// assert!(RangeSet::from(1..=5).is_superset(&RangeSet::from(2..=3)));
     /// ```
     #[must_use]
-    pub fn is_superset(&self, other: &Self) -> bool {
+    pub fn is_superset(&self, other: &Self) -> bool
+    where
+        T: Element,
+    {
         other.is_subset(self)
     }
 
@@ -360,7 +426,10 @@ impl<T: Element> RangeSet<T> {
     /// assert!(RangeSet::from(1..=5).is_disjoint(&RangeSet::from(6..=7)));
     /// ```
     #[must_use]
-    pub fn is_disjoint(&self, other: &Self) -> bool {
+    pub fn is_disjoint(&self, other: &Self) -> bool
+    where
+        T: Element,
+    {
         if self.is_same(other) {
             return self.is_empty();
         }
@@ -370,7 +439,10 @@ impl<T: Element> RangeSet<T> {
 
     /// Returns whether both references are to one set. The library's exports do not take the same
     /// set twice.
-    pub(crate) fn is_same(&self, other: &Self) -> bool {
+    pub(crate) fn is_same(&self, other: &Self) -> bool
+    where
+        T: Element,
+    {
         ptr::eq(self, other)
     }
 }

@@ -6,7 +6,7 @@ use crate::calls::RunOf;
 use crate::span::{span_of, Span};
 use crate::{allocated, changed, AllocError, Element, RangeSet};
 
-impl<T: Element> RangeSet<T> {
+impl<T> RangeSet<T> {
     /// Returns the set of all values of the type.
     ///
     /// ```
@@ -19,7 +19,10 @@ impl<T: Element> RangeSet<T> {
     /// Panics if an allocation fails. [`try_universe`](Self::try_universe) returns an error instead.
     #[must_use]
     #[track_caller]
-    pub fn universe() -> Self {
+    pub fn universe() -> Self
+    where
+        T: Element,
+    {
         allocated(Self::try_universe())
     }
 
@@ -30,7 +33,10 @@ impl<T: Element> RangeSet<T> {
     /// assert_eq!(RangeSet::<i8>::try_universe()?.len(), 256);
     /// # Ok::<(), range_set::AllocError>(())
     /// ```
-    pub fn try_universe() -> Result<Self, AllocError> {
+    pub fn try_universe() -> Result<Self, AllocError>
+    where
+        T: Element,
+    {
         let mut all = Self::new();
         all.try_insert_range(..)?;
         Ok(all)
@@ -51,7 +57,10 @@ impl<T: Element> RangeSet<T> {
     /// instead.
     #[must_use]
     #[track_caller]
-    pub fn from_runs(runs: impl IntoIterator<Item = RangeInclusive<T>>) -> Self {
+    pub fn from_runs(runs: impl IntoIterator<Item = RangeInclusive<T>>) -> Self
+    where
+        T: Element,
+    {
         allocated(Self::try_from_runs(runs))
     }
 
@@ -64,7 +73,10 @@ impl<T: Element> RangeSet<T> {
     /// ```
     pub fn try_from_runs(
         runs: impl IntoIterator<Item = RangeInclusive<T>>,
-    ) -> Result<Self, AllocError> {
+    ) -> Result<Self, AllocError>
+    where
+        T: Element,
+    {
         let mut gathered = Gathered::new();
         for run in runs {
             gathered.add(span_of(run))?;
@@ -80,7 +92,10 @@ impl<T: Element> RangeSet<T> {
     /// assert_eq!(RangeSet::try_from_values([3, 1, 2])?.to_string(), "1..=3");
     /// # Ok::<(), range_set::AllocError>(())
     /// ```
-    pub fn try_from_values(values: impl IntoIterator<Item = T>) -> Result<Self, AllocError> {
+    pub fn try_from_values(values: impl IntoIterator<Item = T>) -> Result<Self, AllocError>
+    where
+        T: Element,
+    {
         let mut gathered = Gathered::new();
         for value in values {
             let rank = value.rank();
@@ -103,7 +118,10 @@ impl<T: Element> RangeSet<T> {
     ///
     /// Panics if an allocation fails. [`try_retain`](Self::try_retain) returns an error instead.
     #[track_caller]
-    pub fn retain(&mut self, keep: impl FnMut(&T) -> bool) {
+    pub fn retain(&mut self, keep: impl FnMut(&T) -> bool)
+    where
+        T: Element,
+    {
         allocated(self.try_retain(keep));
     }
 
@@ -116,7 +134,10 @@ impl<T: Element> RangeSet<T> {
     /// assert_eq!(set.try_retain(|value| "face".contains(*value)), Ok(()));
     /// assert_eq!(set.to_string(), "'a'..='a', 'c'..='c', 'e'..='f'");
     /// ```
-    pub fn try_retain(&mut self, mut keep: impl FnMut(&T) -> bool) -> Result<(), AllocError> {
+    pub fn try_retain(&mut self, mut keep: impl FnMut(&T) -> bool) -> Result<(), AllocError>
+    where
+        T: Element,
+    {
         *self = Self::try_from_values(self.iter().filter(|value| keep(value)))?;
         Ok(())
     }
@@ -136,7 +157,10 @@ impl<T: Element> RangeSet<T> {
     /// Panics if an allocation fails. [`try_retain_runs`](Self::try_retain_runs) returns an error
     /// instead.
     #[track_caller]
-    pub fn retain_runs(&mut self, keep: impl FnMut(&RangeInclusive<T>) -> bool) {
+    pub fn retain_runs(&mut self, keep: impl FnMut(&RangeInclusive<T>) -> bool)
+    where
+        T: Element,
+    {
         allocated(self.try_retain_runs(keep));
     }
 
@@ -152,7 +176,10 @@ impl<T: Element> RangeSet<T> {
     pub fn try_retain_runs(
         &mut self,
         mut keep: impl FnMut(&RangeInclusive<T>) -> bool,
-    ) -> Result<(), AllocError> {
+    ) -> Result<(), AllocError>
+    where
+        T: Element,
+    {
         *self = Self::try_from_runs(self.runs().filter(|run| keep(run)))?;
         Ok(())
     }

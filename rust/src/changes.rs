@@ -5,7 +5,7 @@ use core::ops::RangeBounds;
 use crate::span::span_of;
 use crate::{allocated, changed, AllocError, Element, RangeSet};
 
-impl<T: Element> RangeSet<T> {
+impl<T> RangeSet<T> {
     /// Adds a value and returns whether it was new.
     ///
     /// ```
@@ -18,7 +18,10 @@ impl<T: Element> RangeSet<T> {
     ///
     /// Panics if an allocation fails. [`try_insert`](Self::try_insert) returns an error instead.
     #[track_caller]
-    pub fn insert(&mut self, value: T) -> bool {
+    pub fn insert(&mut self, value: T) -> bool
+    where
+        T: Element,
+    {
         allocated(self.try_insert(value))
     }
 
@@ -29,7 +32,10 @@ impl<T: Element> RangeSet<T> {
     /// let mut set = RangeSet::new();
     /// assert_eq!(set.try_insert(-5), Ok(true));
     /// ```
-    pub fn try_insert(&mut self, value: T) -> Result<bool, AllocError> {
+    pub fn try_insert(&mut self, value: T) -> Result<bool, AllocError>
+    where
+        T: Element,
+    {
         changed((Self::CALLS.insert)(&mut self.handle, value.rank().into()))
     }
 
@@ -49,7 +55,10 @@ impl<T: Element> RangeSet<T> {
     /// Panics if an allocation fails. [`try_insert_range`](Self::try_insert_range) returns an error
     /// instead.
     #[track_caller]
-    pub fn insert_range(&mut self, range: impl RangeBounds<T>) -> bool {
+    pub fn insert_range(&mut self, range: impl RangeBounds<T>) -> bool
+    where
+        T: Element,
+    {
         allocated(self.try_insert_range(range))
     }
 
@@ -65,7 +74,10 @@ impl<T: Element> RangeSet<T> {
     /// assert_eq!(set.try_insert_range(7..7), Ok(false));
     /// assert_eq!(set.to_string(), "250..=255");
     /// ```
-    pub fn try_insert_range(&mut self, range: impl RangeBounds<T>) -> Result<bool, AllocError> {
+    pub fn try_insert_range(&mut self, range: impl RangeBounds<T>) -> Result<bool, AllocError>
+    where
+        T: Element,
+    {
         let Some(span) = span_of(range) else {
             return Ok(false);
         };
@@ -86,7 +98,10 @@ impl<T: Element> RangeSet<T> {
     ///
     /// Panics if an allocation fails. [`try_remove`](Self::try_remove) returns an error instead.
     #[track_caller]
-    pub fn remove(&mut self, value: T) -> bool {
+    pub fn remove(&mut self, value: T) -> bool
+    where
+        T: Element,
+    {
         allocated(self.try_remove(value))
     }
 
@@ -97,7 +112,10 @@ impl<T: Element> RangeSet<T> {
     /// let mut set = RangeSet::from([1, 2]);
     /// assert_eq!((set.try_remove(2), set.try_remove(2)), (Ok(true), Ok(false)));
     /// ```
-    pub fn try_remove(&mut self, value: T) -> Result<bool, AllocError> {
+    pub fn try_remove(&mut self, value: T) -> Result<bool, AllocError>
+    where
+        T: Element,
+    {
         changed((Self::CALLS.remove)(&mut self.handle, value.rank().into()))
     }
 
@@ -115,7 +133,10 @@ impl<T: Element> RangeSet<T> {
     /// Panics if an allocation fails. [`try_remove_range`](Self::try_remove_range) returns an error
     /// instead.
     #[track_caller]
-    pub fn remove_range(&mut self, range: impl RangeBounds<T>) -> bool {
+    pub fn remove_range(&mut self, range: impl RangeBounds<T>) -> bool
+    where
+        T: Element,
+    {
         allocated(self.try_remove_range(range))
     }
 
@@ -128,7 +149,10 @@ impl<T: Element> RangeSet<T> {
     /// let mut set = RangeSet::from(1..=9);
     /// assert_eq!(set.try_remove_range(7..), Ok(true));
     /// ```
-    pub fn try_remove_range(&mut self, range: impl RangeBounds<T>) -> Result<bool, AllocError> {
+    pub fn try_remove_range(&mut self, range: impl RangeBounds<T>) -> Result<bool, AllocError>
+    where
+        T: Element,
+    {
         let Some(span) = span_of(range) else {
             return Ok(false);
         };
@@ -144,7 +168,10 @@ impl<T: Element> RangeSet<T> {
     /// set.clear();
     /// assert!(set.is_empty());
     /// ```
-    pub fn clear(&mut self) {
+    pub fn clear(&mut self)
+    where
+        T: Element,
+    {
         (Self::CALLS.clear)(&mut self.handle);
     }
 
@@ -161,7 +188,10 @@ impl<T: Element> RangeSet<T> {
     /// Panics if an allocation fails. [`try_pop_first`](Self::try_pop_first) returns an error
     /// instead.
     #[track_caller]
-    pub fn pop_first(&mut self) -> Option<T> {
+    pub fn pop_first(&mut self) -> Option<T>
+    where
+        T: Element,
+    {
         allocated(self.try_pop_first())
     }
 
@@ -171,7 +201,10 @@ impl<T: Element> RangeSet<T> {
     /// # use range_set::RangeSet;
     /// assert_eq!(RangeSet::from(7..=9).try_pop_first(), Ok(Some(7)));
     /// ```
-    pub fn try_pop_first(&mut self) -> Result<Option<T>, AllocError> {
+    pub fn try_pop_first(&mut self) -> Result<Option<T>, AllocError>
+    where
+        T: Element,
+    {
         let first = self.first();
         if let Some(value) = first {
             self.try_remove(value)?;
@@ -192,7 +225,10 @@ impl<T: Element> RangeSet<T> {
     /// Panics if an allocation fails. [`try_pop_last`](Self::try_pop_last) returns an error
     /// instead.
     #[track_caller]
-    pub fn pop_last(&mut self) -> Option<T> {
+    pub fn pop_last(&mut self) -> Option<T>
+    where
+        T: Element,
+    {
         allocated(self.try_pop_last())
     }
 
@@ -202,7 +238,10 @@ impl<T: Element> RangeSet<T> {
     /// # use range_set::RangeSet;
     /// assert_eq!(RangeSet::from(7..=9).try_pop_last(), Ok(Some(9)));
     /// ```
-    pub fn try_pop_last(&mut self) -> Result<Option<T>, AllocError> {
+    pub fn try_pop_last(&mut self) -> Result<Option<T>, AllocError>
+    where
+        T: Element,
+    {
         let last = self.last();
         if let Some(value) = last {
             self.try_remove(value)?;
@@ -225,7 +264,10 @@ impl<T: Element> RangeSet<T> {
     /// instead.
     #[must_use = "the members from `value` on are dropped otherwise; `remove_range` does that"]
     #[track_caller]
-    pub fn split_off(&mut self, value: T) -> Self {
+    pub fn split_off(&mut self, value: T) -> Self
+    where
+        T: Element,
+    {
         allocated(self.try_split_off(value))
     }
 
@@ -236,7 +278,10 @@ impl<T: Element> RangeSet<T> {
     /// let mut low = RangeSet::from(1..=9);
     /// assert_eq!(low.try_split_off(4), Ok(RangeSet::from(4..=9)));
     /// ```
-    pub fn try_split_off(&mut self, value: T) -> Result<Self, AllocError> {
+    pub fn try_split_off(&mut self, value: T) -> Result<Self, AllocError>
+    where
+        T: Element,
+    {
         let mut high = Self::new();
         high.try_insert_range(value..)?;
         high.try_intersect_with(self)?;
@@ -257,7 +302,10 @@ impl<T: Element> RangeSet<T> {
     ///
     /// Panics if an allocation fails. [`try_append`](Self::try_append) returns an error instead.
     #[track_caller]
-    pub fn append(&mut self, other: &mut Self) {
+    pub fn append(&mut self, other: &mut Self)
+    where
+        T: Element,
+    {
         allocated(self.try_append(other));
     }
 
@@ -268,7 +316,10 @@ impl<T: Element> RangeSet<T> {
     /// let (mut all, mut more) = (RangeSet::from(1..=4), RangeSet::from(5..=9));
     /// assert_eq!(all.try_append(&mut more), Ok(()));
     /// ```
-    pub fn try_append(&mut self, other: &mut Self) -> Result<(), AllocError> {
+    pub fn try_append(&mut self, other: &mut Self) -> Result<(), AllocError>
+    where
+        T: Element,
+    {
         if self.is_empty() {
             core::mem::swap(self, other);
             return Ok(());

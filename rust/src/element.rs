@@ -167,7 +167,7 @@ const SURROGATE_COUNT: u32 = 0x800;
 /// The values have no gap where code points have the surrogates: U+D7FF and U+E000 touch.
 impl Element for char {
     type Rank = u32;
-    const MIN: Self = char::MIN;
+    const MIN: Self = '\0';
     const MAX: Self = char::MAX;
 
     fn rank(self) -> u32 {

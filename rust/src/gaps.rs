@@ -6,7 +6,7 @@ use crate::span::Span;
 use crate::width::Number;
 use crate::{Element, RangeSet};
 
-impl<T: Element> RangeSet<T> {
+impl<T> RangeSet<T> {
     /// Returns the gap that contains `from`, or otherwise the first gap after it.
     ///
     /// ```
@@ -17,7 +17,10 @@ impl<T: Element> RangeSet<T> {
     /// assert_eq!((!&set).next_gap(14), None);
     /// ```
     #[must_use]
-    pub fn next_gap(&self, from: T) -> Option<RangeInclusive<T>> {
+    pub fn next_gap(&self, from: T) -> Option<RangeInclusive<T>>
+    where
+        T: Element,
+    {
         Some(self.gap_from(from.rank())?.values())
     }
 
@@ -30,7 +33,10 @@ impl<T: Element> RangeSet<T> {
     /// assert_eq!(set.prev_gap(3), Some(-128..=0));
     /// ```
     #[must_use]
-    pub fn prev_gap(&self, from: T) -> Option<RangeInclusive<T>> {
+    pub fn prev_gap(&self, from: T) -> Option<RangeInclusive<T>>
+    where
+        T: Element,
+    {
         Some(self.gap_to(from.rank())?.values())
     }
 
@@ -43,7 +49,10 @@ impl<T: Element> RangeSet<T> {
     /// assert_eq!(set.gap_after(14), None);
     /// ```
     #[must_use]
-    pub fn gap_after(&self, value: T) -> Option<RangeInclusive<T>> {
+    pub fn gap_after(&self, value: T) -> Option<RangeInclusive<T>>
+    where
+        T: Element,
+    {
         let run = self.run_by(Self::CALLS.next_run, value.rank())?;
         Some(self.gap_above(run)?.values())
     }
@@ -57,7 +66,10 @@ impl<T: Element> RangeSet<T> {
     /// assert_eq!(set.gap_before(0), None);
     /// ```
     #[must_use]
-    pub fn gap_before(&self, value: T) -> Option<RangeInclusive<T>> {
+    pub fn gap_before(&self, value: T) -> Option<RangeInclusive<T>>
+    where
+        T: Element,
+    {
         let run = self.run_by(Self::CALLS.prev_run, value.rank())?;
         Some(self.gap_below(run)?.values())
     }
@@ -74,7 +86,10 @@ impl<T: Element> RangeSet<T> {
     /// assert_eq!(set.first_gap(6, 3), None);
     /// ```
     #[must_use]
-    pub fn first_gap(&self, from: T, len: u128) -> Option<RangeInclusive<T>> {
+    pub fn first_gap(&self, from: T, len: u128) -> Option<RangeInclusive<T>>
+    where
+        T: Element,
+    {
         // At most one gap is longer than what C can ask for.
         let asked = T::Rank::place(len).or_else(|| T::Rank::place(u64::MAX.into()))?;
         let mut run = Self::any_run();
@@ -87,7 +102,10 @@ impl<T: Element> RangeSet<T> {
     }
 
     /// Returns the gap that contains a rank, or otherwise the first gap after it.
-    pub(crate) fn gap_from(&self, rank: T::Rank) -> Option<Span<T::Rank>> {
+    pub(crate) fn gap_from(&self, rank: T::Rank) -> Option<Span<T::Rank>>
+    where
+        T: Element,
+    {
         let (block, is_run) = self.block_at(rank);
         if is_run {
             self.gap_above(block)
@@ -97,7 +115,10 @@ impl<T: Element> RangeSet<T> {
     }
 
     /// Returns the gap that contains a rank, or otherwise the last gap before it.
-    pub(crate) fn gap_to(&self, rank: T::Rank) -> Option<Span<T::Rank>> {
+    pub(crate) fn gap_to(&self, rank: T::Rank) -> Option<Span<T::Rank>>
+    where
+        T: Element,
+    {
         let (block, is_run) = self.block_at(rank);
         if is_run {
             self.gap_below(block)
@@ -107,13 +128,19 @@ impl<T: Element> RangeSet<T> {
     }
 
     /// Returns the gap just above a run, or `None` if the run has the greatest value.
-    fn gap_above(&self, run: Span<T::Rank>) -> Option<Span<T::Rank>> {
+    fn gap_above(&self, run: Span<T::Rank>) -> Option<Span<T::Rank>>
+    where
+        T: Element,
+    {
         let next = run.last.successor()?;
         (next <= T::MAX.rank()).then(|| self.block_at(next).0)
     }
 
     /// Returns the gap just below a run, or `None` if the run has the least value.
-    fn gap_below(&self, run: Span<T::Rank>) -> Option<Span<T::Rank>> {
+    fn gap_below(&self, run: Span<T::Rank>) -> Option<Span<T::Rank>>
+    where
+        T: Element,
+    {
         let previous = run.first.predecessor()?;
         (previous >= T::MIN.rank()).then(|| self.block_at(previous).0)
     }

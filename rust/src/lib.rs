@@ -37,10 +37,30 @@
 //! catch the panic and go on. Either way, each set that was passed by reference is unchanged, except
 //! that `extend` may have added some values.
 //!
-//! # Bad values and bounds
+//! # Mistakes
 //!
-//! Rust's types refuse a value that is too great. A range whose end is below its start has no
-//! values, as in the standard library: inserting it changes nothing.
+//! A range whose end is below its start has no values, as in the standard library: inserting it
+//! changes nothing. Text that does not list values is an error with its position. The compiler
+//! refuses a value that is too great, and a change of a set while a loop goes over it:
+//!
+//! ```compile_fail
+//! let set = range_set::RangeSet::<u8>::from([300]);
+//! ```
+//!
+//! ```compile_fail,E0502
+//! let mut set = range_set::RangeSet::from(1..=3);
+//! for value in &set {
+//!     set.insert(value + 1);
+//! }
+//! ```
+//!
+//! A number of members is a `u128`, or a [`Count`] for types with 128 bits. So name the element
+//! type if all of your values are literals:
+//!
+//! ```
+//! let set = range_set::RangeSet::<i32>::from(1..=3);
+//! assert_eq!(set.len(), 3);
+//! ```
 //!
 //! # How to link the library
 //!
@@ -87,11 +107,9 @@ use core::marker::PhantomData;
 
 pub use count::{Count, TooGreat};
 pub use element::Element;
-// The name that range-set-blaze has for it. Messages of the compiler then keep the other one.
-#[doc(hidden)]
-pub use element::Element as Integer;
 pub use iterators::{Gaps, IntoIter, IntoRuns, Iter, IterIn, Runs, RunsIn};
 pub use many::Multiway;
+pub use names::Integer;
 pub use text::ParseError;
 pub use width::Width;
 
@@ -103,6 +121,12 @@ pub mod prelude {
 }
 
 /// The type of numbers of members: `u128`, or [`Count`] for element types with 128 bits.
+///
+/// ```
+/// let set = range_set::RangeSet::<u32>::from(1..=9);
+/// let len: range_set::Len<u32> = set.len();
+/// assert_eq!(len, 9_u128);
+/// ```
 pub type Len<T> = <<T as Element>::Rank as Width>::Len;
 
 /// A set of values, kept as sorted runs that never touch.
@@ -120,7 +144,11 @@ pub struct RangeSet<T> {
 impl<T: Element> RangeSet<T> {
     /// The functions of the library for the ranks of the values.
     const CALLS: &'static calls::CallsOf<T::Rank> = <T::Rank as Number>::CALLS;
+}
 
+// Each method has the bound itself, so that its message reaches a user whose type is no element
+// type.
+impl<T> RangeSet<T> {
     /// Returns the empty set, which owns no memory.
     ///
     /// ```
@@ -128,7 +156,10 @@ impl<T: Element> RangeSet<T> {
     /// assert!(set.is_empty());
     /// ```
     #[must_use]
-    pub const fn new() -> Self {
+    pub const fn new() -> Self
+    where
+        T: Element,
+    {
         RangeSet {
             handle: calls::Handle::empty(),
             free: Self::CALLS.free,

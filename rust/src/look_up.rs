@@ -7,7 +7,7 @@ use crate::span::{span_of, Span};
 use crate::width::{fitting, Number, Width};
 use crate::{Element, Len, RangeSet};
 
-impl<T: Element> RangeSet<T> {
+impl<T> RangeSet<T> {
     /// Returns whether the set has no member.
     ///
     /// ```
@@ -16,7 +16,10 @@ impl<T: Element> RangeSet<T> {
     /// assert!(!RangeSet::from([5]).is_empty());
     /// ```
     #[must_use]
-    pub fn is_empty(&self) -> bool {
+    pub fn is_empty(&self) -> bool
+    where
+        T: Element,
+    {
         self.run_count() == 0
     }
 
@@ -28,7 +31,10 @@ impl<T: Element> RangeSet<T> {
     /// assert!(!RangeSet::<u8>::from(0..=254).is_universal());
     /// ```
     #[must_use]
-    pub fn is_universal(&self) -> bool {
+    pub fn is_universal(&self) -> bool
+    where
+        T: Element,
+    {
         self.contains_range(..)
     }
 
@@ -40,7 +46,10 @@ impl<T: Element> RangeSet<T> {
     /// assert!(digits.contains('7') && !digits.contains('x'));
     /// ```
     #[must_use]
-    pub fn contains(&self, value: T) -> bool {
+    pub fn contains(&self, value: T) -> bool
+    where
+        T: Element,
+    {
         (Self::CALLS.contains)(&self.handle, value.rank().into())
     }
 
@@ -53,7 +62,10 @@ impl<T: Element> RangeSet<T> {
     /// assert!(set.contains_range(9..12) && !set.contains_range(4..9));
     /// ```
     #[must_use]
-    pub fn contains_range(&self, range: impl RangeBounds<T>) -> bool {
+    pub fn contains_range(&self, range: impl RangeBounds<T>) -> bool
+    where
+        T: Element,
+    {
         span_of(range).is_none_or(|span| {
             (Self::CALLS.contains_range)(&self.handle, span.first.into(), span.last.into())
         })
@@ -68,7 +80,10 @@ impl<T: Element> RangeSet<T> {
     /// assert!(set.is_disjoint_range(5..8) && !set.is_disjoint_range(..=1));
     /// ```
     #[must_use]
-    pub fn is_disjoint_range(&self, range: impl RangeBounds<T>) -> bool {
+    pub fn is_disjoint_range(&self, range: impl RangeBounds<T>) -> bool
+    where
+        T: Element,
+    {
         span_of(range).is_none_or(|span| {
             (Self::CALLS.is_disjoint_range)(&self.handle, span.first.into(), span.last.into())
         })
@@ -81,7 +96,10 @@ impl<T: Element> RangeSet<T> {
     /// assert_eq!(RangeSet::<i32>::from_iter([-4..=4, 8..=13]).len(), 15);
     /// ```
     #[must_use]
-    pub fn len(&self) -> Len<T> {
+    pub fn len(&self) -> Len<T>
+    where
+        T: Element,
+    {
         T::Rank::len((Self::CALLS.len)(&self.handle).into())
     }
 
@@ -93,7 +111,10 @@ impl<T: Element> RangeSet<T> {
     /// assert_eq!(set.len_in(3..10), 4);
     /// ```
     #[must_use]
-    pub fn len_in(&self, range: impl RangeBounds<T>) -> Len<T> {
+    pub fn len_in(&self, range: impl RangeBounds<T>) -> Len<T>
+    where
+        T: Element,
+    {
         span_of(range).map_or(0_u64.into(), |span| {
             let len = (Self::CALLS.len_in)(&self.handle, span.first.into(), span.last.into());
             T::Rank::len(len.into())
@@ -109,7 +130,10 @@ impl<T: Element> RangeSet<T> {
     /// assert_eq!((set.rank(1), set.rank(9), set.rank(99)), (0, 5, 10));
     /// ```
     #[must_use]
-    pub fn rank(&self, value: T) -> u128 {
+    pub fn rank(&self, value: T) -> u128
+    where
+        T: Element,
+    {
         fitting((Self::CALLS.rank)(&self.handle, value.rank().into()).into())
     }
 
@@ -122,7 +146,10 @@ impl<T: Element> RangeSet<T> {
     /// assert_eq!((set.nth(4), set.nth(10)), (Some(8), None));
     /// ```
     #[must_use]
-    pub fn nth(&self, n: u128) -> Option<T> {
+    pub fn nth(&self, n: u128) -> Option<T>
+    where
+        T: Element,
+    {
         let mut value = T::Rank::LEAST.into();
         let found = (Self::CALLS.nth)(&self.handle, T::Rank::place(n)?, &mut value);
         found.then(|| T::from_rank(value.into()))
@@ -135,7 +162,10 @@ impl<T: Element> RangeSet<T> {
     /// assert_eq!(RangeSet::from([1, 2, 3, 7, 8]).run_count(), 2);
     /// ```
     #[must_use]
-    pub fn run_count(&self) -> usize {
+    pub fn run_count(&self) -> usize
+    where
+        T: Element,
+    {
         (Self::CALLS.run_count)(&self.handle)
     }
 
@@ -146,7 +176,10 @@ impl<T: Element> RangeSet<T> {
     /// assert_eq!(RangeSet::from([3, -7, 5]).first(), Some(-7));
     /// ```
     #[must_use]
-    pub fn first(&self) -> Option<T> {
+    pub fn first(&self) -> Option<T>
+    where
+        T: Element,
+    {
         let mut value = T::Rank::LEAST.into();
         (Self::CALLS.first)(&self.handle, &mut value).then(|| T::from_rank(value.into()))
     }
@@ -158,7 +191,10 @@ impl<T: Element> RangeSet<T> {
     /// assert_eq!(RangeSet::from([3, -7, 5]).last(), Some(5));
     /// ```
     #[must_use]
-    pub fn last(&self) -> Option<T> {
+    pub fn last(&self) -> Option<T>
+    where
+        T: Element,
+    {
         let mut value = T::Rank::LEAST.into();
         (Self::CALLS.last)(&self.handle, &mut value).then(|| T::from_rank(value.into()))
     }
@@ -173,7 +209,10 @@ impl<T: Element> RangeSet<T> {
     /// assert_eq!(set.run_or_gap(99), (14..=255, false));
     /// ```
     #[must_use]
-    pub fn run_or_gap(&self, value: T) -> (RangeInclusive<T>, bool) {
+    pub fn run_or_gap(&self, value: T) -> (RangeInclusive<T>, bool)
+    where
+        T: Element,
+    {
         let (block, is_run) = self.block_at(value.rank());
         (block.values(), is_run)
     }
@@ -186,7 +225,10 @@ impl<T: Element> RangeSet<T> {
     /// assert_eq!((set.next_run(2), set.next_run(5)), (Some(1..=4), Some(8..=13)));
     /// ```
     #[must_use]
-    pub fn next_run(&self, from: T) -> Option<RangeInclusive<T>> {
+    pub fn next_run(&self, from: T) -> Option<RangeInclusive<T>>
+    where
+        T: Element,
+    {
         Some(self.run_by(Self::CALLS.next_run, from.rank())?.values())
     }
 
@@ -198,7 +240,10 @@ impl<T: Element> RangeSet<T> {
     /// assert_eq!((set.prev_run(9), set.prev_run(7)), (Some(8..=13), Some(1..=4)));
     /// ```
     #[must_use]
-    pub fn prev_run(&self, from: T) -> Option<RangeInclusive<T>> {
+    pub fn prev_run(&self, from: T) -> Option<RangeInclusive<T>>
+    where
+        T: Element,
+    {
         Some(self.run_by(Self::CALLS.prev_run, from.rank())?.values())
     }
 
@@ -210,7 +255,10 @@ impl<T: Element> RangeSet<T> {
     /// assert_eq!((set.run_after(2), set.run_after(8)), (Some(8..=13), None));
     /// ```
     #[must_use]
-    pub fn run_after(&self, value: T) -> Option<RangeInclusive<T>> {
+    pub fn run_after(&self, value: T) -> Option<RangeInclusive<T>>
+    where
+        T: Element,
+    {
         Some(self.run_by(Self::CALLS.run_after, value.rank())?.values())
     }
 
@@ -222,7 +270,10 @@ impl<T: Element> RangeSet<T> {
     /// assert_eq!((set.run_before(9), set.run_before(4)), (Some(1..=4), None));
     /// ```
     #[must_use]
-    pub fn run_before(&self, value: T) -> Option<RangeInclusive<T>> {
+    pub fn run_before(&self, value: T) -> Option<RangeInclusive<T>>
+    where
+        T: Element,
+    {
         Some(self.run_by(Self::CALLS.run_before, value.rank())?.values())
     }
 
@@ -233,7 +284,10 @@ impl<T: Element> RangeSet<T> {
     /// assert_eq!(RangeSet::from_iter([8..=13, 1..=4]).first_run(), Some(1..=4));
     /// ```
     #[must_use]
-    pub fn first_run(&self) -> Option<RangeInclusive<T>> {
+    pub fn first_run(&self) -> Option<RangeInclusive<T>>
+    where
+        T: Element,
+    {
         self.next_run(T::MIN)
     }
 
@@ -244,7 +298,10 @@ impl<T: Element> RangeSet<T> {
     /// assert_eq!(RangeSet::from_iter([8..=13, 1..=4]).last_run(), Some(8..=13));
     /// ```
     #[must_use]
-    pub fn last_run(&self) -> Option<RangeInclusive<T>> {
+    pub fn last_run(&self) -> Option<RangeInclusive<T>>
+    where
+        T: Element,
+    {
         self.prev_run(T::MAX)
     }
 
@@ -259,7 +316,10 @@ impl<T: Element> RangeSet<T> {
     /// assert_eq!(free.first_run_of(10, 5), None);
     /// ```
     #[must_use]
-    pub fn first_run_of(&self, from: T, len: u128) -> Option<RangeInclusive<T>> {
+    pub fn first_run_of(&self, from: T, len: u128) -> Option<RangeInclusive<T>>
+    where
+        T: Element,
+    {
         let mut runs = self.spans_in(span_of(from..));
         loop {
             let span = runs.next(self)?;
@@ -273,20 +333,29 @@ impl<T: Element> RangeSet<T> {
         &self,
         call: extern "C" fn(&Handle, <T::Rank as Number>::Value, &mut RunOf<T::Rank>) -> bool,
         rank: T::Rank,
-    ) -> Option<Span<T::Rank>> {
+    ) -> Option<Span<T::Rank>>
+    where
+        T: Element,
+    {
         let mut run = Self::any_run();
         call(&self.handle, rank.into(), &mut run).then(|| Span::from_run(run))
     }
 
     /// Returns some run, which a call of the library replaces.
-    pub(crate) fn any_run() -> RunOf<T::Rank> {
+    pub(crate) fn any_run() -> RunOf<T::Rank>
+    where
+        T: Element,
+    {
         let (first, last) = (T::Rank::LEAST, T::Rank::LEAST);
         Span { first, last }.to_run()
     }
 
     /// Returns the run or the gap that contains a rank, and whether it is a run. The library's gaps
     /// extend over all ranks, but only the values of the type count.
-    pub(crate) fn block_at(&self, rank: T::Rank) -> (Span<T::Rank>, bool) {
+    pub(crate) fn block_at(&self, rank: T::Rank) -> (Span<T::Rank>, bool)
+    where
+        T: Element,
+    {
         let mut run = Self::any_run();
         let is_run = (Self::CALLS.run_or_gap)(&self.handle, rank.into(), &mut run);
         let block = Span::from_run(run);

@@ -61,7 +61,7 @@ impl<T: Element> Drop for Copies<T> {
     }
 }
 
-impl<T: Element> RangeSet<T> {
+impl<T> RangeSet<T> {
     /// Returns the values that are in at least one of the sets.
     ///
     /// ```
@@ -78,7 +78,7 @@ impl<T: Element> RangeSet<T> {
     #[track_caller]
     pub fn union_of<'a>(sets: impl IntoIterator<Item = &'a Self>) -> Self
     where
-        T: 'a,
+        T: Element + 'a,
     {
         allocated(Self::try_union_of(sets))
     }
@@ -93,7 +93,7 @@ impl<T: Element> RangeSet<T> {
     /// ```
     pub fn try_union_of<'a>(sets: impl IntoIterator<Item = &'a Self>) -> Result<Self, AllocError>
     where
-        T: 'a,
+        T: Element + 'a,
     {
         Copies::of(sets)?.union()
     }
@@ -114,7 +114,7 @@ impl<T: Element> RangeSet<T> {
     #[track_caller]
     pub fn intersection_of<'a>(sets: impl IntoIterator<Item = &'a Self>) -> Self
     where
-        T: 'a,
+        T: Element + 'a,
     {
         allocated(Self::try_intersection_of(sets))
     }
@@ -131,7 +131,7 @@ impl<T: Element> RangeSet<T> {
         sets: impl IntoIterator<Item = &'a Self>,
     ) -> Result<Self, AllocError>
     where
-        T: 'a,
+        T: Element + 'a,
     {
         Copies::of(sets)?.intersection()
     }
@@ -152,7 +152,7 @@ impl<T: Element> RangeSet<T> {
     #[track_caller]
     pub fn symmetric_difference_of<'a>(sets: impl IntoIterator<Item = &'a Self>) -> Self
     where
-        T: 'a,
+        T: Element + 'a,
     {
         allocated(Self::try_symmetric_difference_of(sets))
     }
@@ -169,7 +169,7 @@ impl<T: Element> RangeSet<T> {
         sets: impl IntoIterator<Item = &'a Self>,
     ) -> Result<Self, AllocError>
     where
-        T: 'a,
+        T: Element + 'a,
     {
         Copies::of(sets)?.symmetric_difference()
     }
@@ -190,7 +190,7 @@ impl<T: Element> RangeSet<T> {
     #[track_caller]
     pub fn at_least<'a>(k: usize, sets: impl IntoIterator<Item = &'a Self>) -> Self
     where
-        T: 'a,
+        T: Element + 'a,
     {
         allocated(Self::try_at_least(k, sets))
     }
@@ -209,7 +209,7 @@ impl<T: Element> RangeSet<T> {
         sets: impl IntoIterator<Item = &'a Self>,
     ) -> Result<Self, AllocError>
     where
-        T: 'a,
+        T: Element + 'a,
     {
         Copies::of(sets)?.at_least(k)
     }

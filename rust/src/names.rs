@@ -5,15 +5,33 @@ use core::ops::{RangeBounds, RangeInclusive};
 use crate::iterators::{IntoRuns, Runs};
 use crate::{Element, RangeSet};
 
+/// The name that range-set-blaze has for [`Element`], for bounds of your own. Each element type
+/// has it.
+///
+/// ```
+/// use range_set::{Integer, RangeSet};
+///
+/// fn run_lengths<T: Integer>(set: &RangeSet<T>) -> Vec<range_set::Len<T>> {
+///     set.ranges().map(|range| set.len_in(range)).collect()
+/// }
+/// assert_eq!(run_lengths(&RangeSet::from([1_u8, 2, 5])), [2, 1]);
+/// ```
+pub trait Integer: Element {}
+
+impl<T: Element> Integer for T {}
+
 /// Other names, which range-set-blaze has.
-impl<T: Element> RangeSet<T> {
+impl<T> RangeSet<T> {
     /// Does the same as [`runs`](Self::runs).
     ///
     /// ```
     /// let set = range_set::RangeSet::from([1, 2, 5]);
     /// assert!(set.ranges().eq([1..=2, 5..=5]));
     /// ```
-    pub fn ranges(&self) -> Runs<'_, T> {
+    pub fn ranges(&self) -> Runs<'_, T>
+    where
+        T: Element,
+    {
         self.runs()
     }
 
@@ -23,7 +41,10 @@ impl<T: Element> RangeSet<T> {
     /// let set = range_set::RangeSet::from([1, 2, 5]);
     /// assert!(set.into_ranges().eq([1..=2, 5..=5]));
     /// ```
-    pub fn into_ranges(self) -> IntoRuns<T> {
+    pub fn into_ranges(self) -> IntoRuns<T>
+    where
+        T: Element,
+    {
         self.into_runs()
     }
 
@@ -33,7 +54,10 @@ impl<T: Element> RangeSet<T> {
     /// assert_eq!(range_set::RangeSet::from([1, 2, 5]).ranges_len(), 2);
     /// ```
     #[must_use]
-    pub fn ranges_len(&self) -> usize {
+    pub fn ranges_len(&self) -> usize
+    where
+        T: Element,
+    {
         self.run_count()
     }
 
@@ -44,7 +68,10 @@ impl<T: Element> RangeSet<T> {
     /// assert!(set.ranges_insert(2..=5) && !set.ranges_insert(3..=4));
     /// ```
     #[track_caller]
-    pub fn ranges_insert(&mut self, range: impl RangeBounds<T>) -> bool {
+    pub fn ranges_insert(&mut self, range: impl RangeBounds<T>) -> bool
+    where
+        T: Element,
+    {
         self.insert_range(range)
     }
 
@@ -55,7 +82,10 @@ impl<T: Element> RangeSet<T> {
     /// assert!(set.ranges_remove(2..=5) && !set.ranges_remove(3..=4));
     /// ```
     #[track_caller]
-    pub fn ranges_remove(&mut self, range: impl RangeBounds<T>) -> bool {
+    pub fn ranges_remove(&mut self, range: impl RangeBounds<T>) -> bool
+    where
+        T: Element,
+    {
         self.remove_range(range)
     }
 
@@ -67,7 +97,10 @@ impl<T: Element> RangeSet<T> {
     /// assert_eq!(set.to_string(), "5..=5");
     /// ```
     #[track_caller]
-    pub fn ranges_retain(&mut self, keep: impl FnMut(&RangeInclusive<T>) -> bool) {
+    pub fn ranges_retain(&mut self, keep: impl FnMut(&RangeInclusive<T>) -> bool)
+    where
+        T: Element,
+    {
         self.retain_runs(keep);
     }
 
@@ -78,7 +111,10 @@ impl<T: Element> RangeSet<T> {
     /// assert_eq!((set.range_at(2), set.range_at(3)), (Some(1..=2), None));
     /// ```
     #[must_use]
-    pub fn range_at(&self, value: T) -> Option<RangeInclusive<T>> {
+    pub fn range_at(&self, value: T) -> Option<RangeInclusive<T>>
+    where
+        T: Element,
+    {
         let (run, is_run) = self.run_or_gap(value);
         is_run.then_some(run)
     }
@@ -90,7 +126,10 @@ impl<T: Element> RangeSet<T> {
     /// assert_eq!(set.range_or_gap_at(3), (3..=4, false));
     /// ```
     #[must_use]
-    pub fn range_or_gap_at(&self, value: T) -> (RangeInclusive<T>, bool) {
+    pub fn range_or_gap_at(&self, value: T) -> (RangeInclusive<T>, bool)
+    where
+        T: Element,
+    {
         self.run_or_gap(value)
     }
 
@@ -101,7 +140,10 @@ impl<T: Element> RangeSet<T> {
     /// assert_eq!((set.get(2), set.get(3)), (Some(2), None));
     /// ```
     #[must_use]
-    pub fn get(&self, value: T) -> Option<T> {
+    pub fn get(&self, value: T) -> Option<T>
+    where
+        T: Element,
+    {
         self.contains(value).then_some(value)
     }
 
@@ -112,7 +154,10 @@ impl<T: Element> RangeSet<T> {
     /// assert_eq!((set.take(2), set.take(2)), (Some(2), None));
     /// ```
     #[track_caller]
-    pub fn take(&mut self, value: T) -> Option<T> {
+    pub fn take(&mut self, value: T) -> Option<T>
+    where
+        T: Element,
+    {
         self.remove(value).then_some(value)
     }
 
@@ -123,7 +168,10 @@ impl<T: Element> RangeSet<T> {
     /// assert_eq!((set.replace(2), set.replace(3)), (Some(2), None));
     /// ```
     #[track_caller]
-    pub fn replace(&mut self, value: T) -> Option<T> {
+    pub fn replace(&mut self, value: T) -> Option<T>
+    where
+        T: Element,
+    {
         (!self.insert(value)).then_some(value)
     }
 
@@ -135,7 +183,10 @@ impl<T: Element> RangeSet<T> {
     /// ```
     #[must_use]
     #[track_caller]
-    pub fn from_slice(values: impl AsRef<[T]>) -> Self {
+    pub fn from_slice(values: impl AsRef<[T]>) -> Self
+    where
+        T: Element,
+    {
         values.as_ref().iter().collect()
     }
 }

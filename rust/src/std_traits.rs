@@ -103,25 +103,26 @@ collected! {
     &'a Range<T>, 'a; range => range.clone();
 }
 
-impl<T: Element, const N: usize> From<[T; N]> for RangeSet<T> {
-    fn from(values: [T; N]) -> Self {
-        values.into_iter().collect()
-    }
+/// One value or range, or an array of them, makes a set.
+macro_rules! from {
+    ($($given:ty $(, $count:ident)?;)*) => {
+        $(
+            impl<T: Element $(, const $count: usize)?> From<$given> for RangeSet<T> {
+                #[track_caller]
+                fn from(given: $given) -> Self {
+                    Self::from_iter(from!(@items given $(, $count)?))
+                }
+            }
+        )*
+    };
+    (@items $given:ident) => { [$given] };
+    (@items $given:ident, $count:ident) => { $given };
 }
 
-impl<T: Element> From<RangeInclusive<T>> for RangeSet<T> {
-    fn from(range: RangeInclusive<T>) -> Self {
-        let mut set = Self::new();
-        set.insert_range(range);
-        set
-    }
-}
-
-impl<T: Element> From<Range<T>> for RangeSet<T> {
-    #[track_caller]
-    fn from(range: Range<T>) -> Self {
-        let mut set = Self::new();
-        set.insert_range(range);
-        set
-    }
+from! {
+    [T; N], N;
+    [RangeInclusive<T>; N], N;
+    [Range<T>; N], N;
+    RangeInclusive<T>;
+    Range<T>;
 }

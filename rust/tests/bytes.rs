@@ -126,7 +126,7 @@ mod checks {
         assert!(inner.gaps().eq([T::MIN..=T::MIN, T::MAX..=T::MAX]));
         assert_eq!(inner.first_gap(low, 1), Some(T::MAX..=T::MAX));
         let mut walk = inner.iter();
-        assert_eq!((walk.nth(0), walk.next_back()), (Some(low), Some(high)));
+        assert_eq!((walk.next(), walk.next_back()), (Some(low), Some(high)));
     }
 }
 

@@ -6,10 +6,12 @@
 
 use std::cell::Cell;
 use std::ffi::c_void;
+use std::fmt::{Debug, Display};
 use std::panic;
 use std::ptr;
+use std::str::FromStr;
 
-use range_set::{AllocError, ParseError, RangeSet};
+use range_set::{AllocError, Element, ParseError, RangeSet};
 
 extern "C" {
     fn __libc_malloc(size: usize) -> *mut c_void;
@@ -64,54 +66,103 @@ fn with_failures<V>(number: usize, call: impl FnOnce() -> V) -> (V, bool) {
     (result, FAILED.get())
 }
 
-fn ten_runs() -> RangeSet<u64> {
-    (0..10).map(|place| 10 * place..=10 * place + 4).collect()
+/// A type of values with numbers up to 255.
+trait Value: Element + From<u8> + Debug + Display + FromStr {}
+
+impl Value for u8 {}
+impl Value for u32 {}
+impl Value for i64 {}
+impl Value for u128 {}
+
+fn set<T: Value>(ranges: &[(u8, u8)]) -> RangeSet<T> {
+    ranges
+        .iter()
+        .map(|&(first, last)| T::from(first)..=T::from(last))
+        .collect()
 }
 
-type Call = fn(&mut RangeSet<u64>, &RangeSet<u64>) -> Result<bool, AllocError>;
+fn ten_runs<T: Value>() -> RangeSet<T> {
+    set(&[0, 10, 20, 30, 40, 50, 60, 70, 80, 90].map(|first| (first, first + 4)))
+}
 
-/// Calls that change the first set.
-const CHANGES: [(&str, Call); 8] = [
-    ("insert", |set, _| set.try_insert(7)),
-    ("insert_range", |set, _| set.try_insert_range(200..=300)),
-    ("remove", |set, _| set.try_remove(12)),
-    ("remove_range", |set, _| set.try_remove_range(12..=13)),
-    ("union_with", |set, other| set.try_union_with(other)),
-    ("intersect_with", |set, other| set.try_intersect_with(other)),
-    ("subtract", |set, other| set.try_subtract(other)),
-    ("xor_with", |set, other| set.try_xor_with(other)),
-];
+type Call<T> = fn(&mut RangeSet<T>, &mut RangeSet<T>) -> Result<bool, AllocError>;
 
-type Build = fn(&RangeSet<u64>, &RangeSet<u64>) -> Result<RangeSet<u64>, AllocError>;
+/// Calls that change the first set, and of which one changes the second.
+fn changes<T: Value>() -> Vec<(&'static str, Call<T>)> {
+    vec![
+        ("insert", |set, _| set.try_insert(7.into())),
+        ("insert_range", |set, _| {
+            set.try_insert_range(T::from(200)..=T::from(250))
+        }),
+        ("remove", |set, _| set.try_remove(12.into())),
+        ("remove_range", |set, _| {
+            set.try_remove_range(T::from(12)..=T::from(13))
+        }),
+        ("union_with", |set, other| set.try_union_with(other)),
+        ("intersect_with", |set, other| set.try_intersect_with(other)),
+        ("subtract", |set, other| set.try_subtract(other)),
+        ("xor_with", |set, other| set.try_xor_with(other)),
+        ("pop_first", |set, _| Ok(set.try_pop_first()?.is_some())),
+        ("pop_last", |set, _| Ok(set.try_pop_last()?.is_some())),
+        ("split_off", |set, _| {
+            Ok(!set.try_split_off(T::from(42))?.is_empty())
+        }),
+        ("append", |set, other| set.try_append(other).map(|()| true)),
+        ("retain", |set, _| {
+            set.try_retain(|value| *value != T::from(33)).map(|()| true)
+        }),
+        ("retain_runs", |set, _| {
+            set.try_retain_runs(|run| *run.start() > T::from(9))
+                .map(|()| true)
+        }),
+    ]
+}
+
+type Build<T> = fn(&RangeSet<T>, &RangeSet<T>) -> Result<RangeSet<T>, AllocError>;
 
 /// Calls that make a new set.
-const BUILDS: [(&str, Build); 8] = [
-    ("union", |a, b| a.try_union(b)),
-    ("intersection", |a, b| a.try_intersection(b)),
-    ("difference", |a, b| a.try_difference(b)),
-    ("symmetric_difference", |a, b| a.try_symmetric_difference(b)),
-    ("complement", |a, _| a.try_complement()),
-    ("clone", |a, _| a.try_clone()),
-    ("union_of", |a, b| RangeSet::try_union_of([a, b, a])),
-    ("at_least", |a, b| RangeSet::try_at_least(2, [a, b, a])),
-];
+fn builds<T: Value>() -> Vec<(&'static str, Build<T>)> {
+    vec![
+        ("union", |a, b| a.try_union(b)),
+        ("intersection", |a, b| a.try_intersection(b)),
+        ("difference", |a, b| a.try_difference(b)),
+        ("symmetric_difference", |a, b| a.try_symmetric_difference(b)),
+        ("complement", |a, _| a.try_complement()),
+        ("clone", |a, _| a.try_clone()),
+        ("universe", |_, _| RangeSet::try_universe()),
+        ("from_runs", |a, _| RangeSet::try_from_runs(a.runs())),
+        ("from_values", |a, _| RangeSet::try_from_values(a)),
+        ("union_of", |a, b| RangeSet::try_union_of([a, b, a])),
+        ("intersection_of", |a, b| {
+            RangeSet::try_intersection_of([a, b])
+        }),
+        ("intersection_of no sets", |_, _| {
+            RangeSet::try_intersection_of([])
+        }),
+        ("symmetric_difference_of", |a, b| {
+            RangeSet::try_symmetric_difference_of([a, b])
+        }),
+        ("at_least", |a, b| RangeSet::try_at_least(2, [a, b, a])),
+        ("at_least 0", |a, b| RangeSet::try_at_least(0, [a, b])),
+    ]
+}
 
-#[test]
-fn a_failed_change_leaves_the_set_unchanged() {
-    let other = RangeSet::from_iter([3..=11, 23..=70, 95..=200]);
-    for (name, call) in CHANGES {
-        let mut wanted = ten_runs();
-        assert_eq!(call(&mut wanted, &other), Ok(true), "{name}");
+fn change_each<T: Value>() {
+    let other: RangeSet<T> = set(&[(3, 11), (23, 70), (95, 200)]);
+    for (name, call) in changes::<T>() {
+        let mut wanted = (ten_runs(), other.clone());
+        assert_eq!(call(&mut wanted.0, &mut wanted.1), Ok(true), "{name}");
         for number in 0.. {
-            let mut set = ten_runs();
-            let (result, has_failed) = with_failures(number, || call(&mut set, &other));
+            let mut sets = (ten_runs(), other.clone());
+            let (result, has_failed) = with_failures(number, || call(&mut sets.0, &mut sets.1));
             if !has_failed {
-                assert_eq!((result, &set), (Ok(true), &wanted), "{name}");
+                assert_eq!((result, sets), (Ok(true), wanted), "{name}");
                 break;
             }
+            let unchanged = (ten_runs(), other.clone());
             assert_eq!(
-                (result, set),
-                (Err(AllocError), ten_runs()),
+                (result, sets),
+                (Err(AllocError), unchanged),
                 "{name}, allocation {number}"
             );
         }
@@ -119,9 +170,16 @@ fn a_failed_change_leaves_the_set_unchanged() {
 }
 
 #[test]
-fn a_failed_build_returns_an_error() {
-    let (set, other) = (ten_runs(), RangeSet::from_iter([3..=11, 23..=70]));
-    for (name, call) in BUILDS {
+fn a_failed_change_leaves_the_sets_unchanged() {
+    change_each::<u8>();
+    change_each::<u32>();
+    change_each::<i64>();
+    change_each::<u128>();
+}
+
+fn build_each<T: Value>() {
+    let (set, other) = (ten_runs::<T>(), set(&[(3, 11), (23, 70)]));
+    for (name, call) in builds::<T>() {
         let wanted = call(&set, &other).unwrap();
         let mut failures = 0;
         loop {
@@ -138,34 +196,60 @@ fn a_failed_build_returns_an_error() {
 }
 
 #[test]
-fn a_failed_parse_returns_an_error() {
+fn a_failed_build_returns_an_error() {
+    build_each::<u8>();
+    build_each::<u32>();
+    build_each::<i64>();
+    build_each::<u128>();
+}
+
+fn parse<T: Value>() {
     let mut failures = 0;
     loop {
-        let (result, has_failed) = with_failures(failures, || "1..=5, 7".parse::<RangeSet<u64>>());
+        let (result, has_failed) = with_failures(failures, || "1..=5, 7".parse::<RangeSet<T>>());
         if !has_failed {
-            assert_eq!(result, Ok(RangeSet::from_iter([1..=5, 7..=7])));
+            assert_eq!(result, Ok(set(&[(1, 5), (7, 7)])));
             break;
         }
-        assert_eq!(
-            result,
-            Err(ParseError::NoMemory(AllocError)),
-            "allocation {failures}"
-        );
+        let no_memory = Err(ParseError::NoMemory(AllocError));
+        assert_eq!(result, no_memory, "allocation {failures}");
         failures += 1;
     }
     assert!(failures > 0);
 }
 
 #[test]
-fn calls_without_try_panic() {
+fn a_failed_parse_returns_an_error() {
+    parse::<u8>();
+    parse::<u32>();
+    parse::<i64>();
+    parse::<u128>();
+}
+
+/// Returns whether a call panics if its first allocation fails.
+fn panics(call: impl FnOnce() + panic::UnwindSafe) -> bool {
     let result = panic::catch_unwind(|| {
-        let mut set = RangeSet::<u32>::new();
         // A panic allocates too.
         ONCE.set(true);
         LEFT.set(Some(0));
-        set.insert(1)
+        call();
     });
-    assert!(result.is_err());
     LEFT.set(None);
     ONCE.set(false);
+    result.is_err()
+}
+
+#[test]
+fn calls_without_try_panic() {
+    assert!(panics(|| assert!(RangeSet::<u32>::new().insert(1))));
+    assert!(panics(|| assert!(RangeSet::<u128>::from(1..=5).len() == 5)));
+    assert!(panics(|| assert!(!RangeSet::<char>::universe().is_empty())));
+    assert!(panics(|| assert!(
+        RangeSet::<i16>::from_iter([1, 2]).len_in(1..) == 2
+    )));
+    let set = RangeSet::from([1_u8, 2, 9]);
+    let before = set.clone();
+    assert!(panics(|| drop(set.complement())));
+    assert!(panics(|| drop(&set | &before)));
+    assert_eq!(set, before);
 }

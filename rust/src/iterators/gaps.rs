@@ -7,7 +7,7 @@ use crate::span::Span;
 use crate::width::Number;
 use crate::{Element, RangeSet};
 
-impl<T: Element> RangeSet<T> {
+impl<T> RangeSet<T> {
     /// Iterates over the gaps, from both ends.
     ///
     /// ```
@@ -15,7 +15,10 @@ impl<T: Element> RangeSet<T> {
     /// assert!(set.gaps().eq([4..=6, 9..=255]));
     /// assert_eq!(set.gaps().next_back(), Some(9..=255));
     /// ```
-    pub fn gaps(&self) -> Gaps<'_, T> {
+    pub fn gaps(&self) -> Gaps<'_, T>
+    where
+        T: Element,
+    {
         let at_ends = usize::from(self.contains(T::MIN)) + usize::from(self.contains(T::MAX));
         Gaps {
             set: self,

@@ -9,7 +9,7 @@ use crate::span::{span_of, Span};
 use crate::width::Number;
 use crate::{Element, RangeSet};
 
-impl<T: Element> RangeSet<T> {
+impl<T> RangeSet<T> {
     /// Iterates over the members, from both ends.
     ///
     /// ```
@@ -17,7 +17,10 @@ impl<T: Element> RangeSet<T> {
     /// assert!(set.iter().eq([1, 2, 3, 7, 8]));
     /// assert_eq!(set.iter().next_back(), Some(8));
     /// ```
-    pub fn iter(&self) -> Iter<'_, T> {
+    pub fn iter(&self) -> Iter<'_, T>
+    where
+        T: Element,
+    {
         Iter {
             set: self,
             members: Members::in_span(self, Span::of_type::<T>()),
@@ -32,14 +35,20 @@ impl<T: Element> RangeSet<T> {
     /// assert!(set.range(2..8).eq([2, 3, 7]));
     /// assert_eq!(set.range(..7).next_back(), Some(3));
     /// ```
-    pub fn range(&self, range: impl RangeBounds<T>) -> IterIn<'_, T> {
+    pub fn range(&self, range: impl RangeBounds<T>) -> IterIn<'_, T>
+    where
+        T: Element,
+    {
         IterIn {
             set: self,
             members: Members::in_span(self, span_of(range)),
         }
     }
 
-    fn count(&self) -> Count {
+    fn count(&self) -> Count
+    where
+        T: Element,
+    {
         (Self::CALLS.len)(&self.handle).into()
     }
 }

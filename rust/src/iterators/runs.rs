@@ -8,7 +8,7 @@ use crate::span::{span_of, Span};
 use crate::width::Number;
 use crate::{Element, RangeSet};
 
-impl<T: Element> RangeSet<T> {
+impl<T> RangeSet<T> {
     /// Iterates over the runs, from both ends.
     ///
     /// ```
@@ -17,7 +17,10 @@ impl<T: Element> RangeSet<T> {
     /// assert_eq!(set.runs().next_back(), Some(7..=8));
     /// assert_eq!(set.runs().len(), 2);
     /// ```
-    pub fn runs(&self) -> Runs<'_, T> {
+    pub fn runs(&self) -> Runs<'_, T>
+    where
+        T: Element,
+    {
         Runs {
             set: self,
             spans: self.spans_in(Span::of_type::<T>()),
@@ -34,7 +37,10 @@ impl<T: Element> RangeSet<T> {
     /// assert_eq!(set.runs_in(..=3).next_back(), Some(1..=3));
     /// assert_eq!(set.runs_in(10..20).next(), None);
     /// ```
-    pub fn runs_in(&self, range: impl RangeBounds<T>) -> RunsIn<'_, T> {
+    pub fn runs_in(&self, range: impl RangeBounds<T>) -> RunsIn<'_, T>
+    where
+        T: Element,
+    {
         RunsIn {
             set: self,
             spans: self.spans_in(span_of(range)),
@@ -49,7 +55,10 @@ impl<T: Element> RangeSet<T> {
     /// }
     /// assert!(busy().eq([1..=3, 7..=8]));
     /// ```
-    pub fn into_runs(self) -> IntoRuns<T> {
+    pub fn into_runs(self) -> IntoRuns<T>
+    where
+        T: Element,
+    {
         IntoRuns {
             spans: self.spans_in(Span::of_type::<T>()),
             left: self.run_count(),
@@ -58,7 +67,10 @@ impl<T: Element> RangeSet<T> {
     }
 
     /// Returns the runs between two ranks, as a walk that has not started.
-    pub(crate) fn spans_in(&self, left: Option<Span<T::Rank>>) -> Spans<T::Rank> {
+    pub(crate) fn spans_in(&self, left: Option<Span<T::Rank>>) -> Spans<T::Rank>
+    where
+        T: Element,
+    {
         Spans {
             left,
             ahead: Ahead::none(),
@@ -67,7 +79,10 @@ impl<T: Element> RangeSet<T> {
 
     /// Stores the first runs between two ranks in a slice, until it is full or no run is left, and
     /// returns how many it stored. A run that crosses one of the ranks is shortened.
-    fn store_runs(&self, between: Span<T::Rank>, runs: &mut [RunOf<T::Rank>]) -> usize {
+    fn store_runs(&self, between: Span<T::Rank>, runs: &mut [RunOf<T::Rank>]) -> usize
+    where
+        T: Element,
+    {
         let (first, last) = (between.first.into(), between.last.into());
         let (array, count) = (runs.as_mut_ptr(), runs.len());
         // SAFETY: the array is a slice, and no other reference reaches it.
