@@ -1,4 +1,4 @@
-//! The types of values.
+//! The types of values, whose ranks the library keeps (docs/DECISIONS.md, rust-by-ranks).
 
 use core::fmt;
 use core::net::{Ipv4Addr, Ipv6Addr};

@@ -146,8 +146,8 @@ impl<T: Element> RangeSet<T> {
     const CALLS: &'static calls::CallsOf<T::Rank> = <T::Rank as Number>::CALLS;
 }
 
-// Each method has the bound itself, so that its message reaches a user whose type is no element
-// type.
+// Each method has the bound itself, so that the message of the trait reaches a user whose type has
+// no sets (docs/DECISIONS.md, rust-bound-on-methods).
 impl<T> RangeSet<T> {
     /// Returns the empty set, which owns no memory.
     ///

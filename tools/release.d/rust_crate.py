@@ -1,7 +1,14 @@
-"""Makes the Rust crate's archive as `cargo package` does, from a copy that has its example and the licences inside."""
+"""Makes the Rust crate's archive as `cargo package` does, from a copy that has its example and the licences inside.
+
+The archive also has the manifest in `serde`, which `cargo package` leaves out as that of another package.
+"""
+import copy
+import gzip
+import io
 import os
 import re
 import shutil
+import tarfile
 import tempfile
 from pathlib import Path
 
@@ -28,6 +35,24 @@ def copied(folder):
     return top
 
 
+def with_second_manifest(made, to):
+    """Copies an archive, and adds the folder `serde` to it."""
+    folder = ROOT / "rust" / "serde"
+    names = [Path(name) for name in layout.tracked("rust/serde")]
+    with tarfile.open(made) as old, open(to, "wb") as file:
+        members = old.getmembers()
+        with gzip.GzipFile(filename="", mode="wb", fileobj=file, mtime=0) as packed, tarfile.open(
+            fileobj=packed, mode="w", format=tarfile.GNU_FORMAT
+        ) as new:
+            for member in members:
+                new.addfile(member, old.extractfile(member))
+            for name in names:
+                member, text = copy.copy(members[0]), (ROOT / name).read_bytes()
+                member.name = f"range_set-{VERSION}/serde/{(ROOT / name).relative_to(folder)}"
+                member.size = len(text)
+                new.addfile(member, io.BytesIO(text))
+
+
 def crate(out):
     """Writes the crate's archive, and returns its path."""
     need("cargo")
@@ -36,5 +61,5 @@ def crate(out):
         environment = {**os.environ, "CARGO_TARGET_DIR": f"{folder}/target"}
         run("cargo", "package", "--offline", "--no-verify", "--allow-dirty", "--quiet", cwd=top, env=environment)
         made = Path(folder) / "target" / "package" / f"range_set-{VERSION}.crate"
-        shutil.copy(made, out / made.name)
+        with_second_manifest(made, out / made.name)
     return out / made.name
