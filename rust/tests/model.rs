@@ -8,7 +8,7 @@ use std::ops::RangeInclusive;
 use common::{Base, Value, BASES, PLACES};
 use range_set::{Multiway, RangeSet};
 
-const SESSIONS: u64 = 8;
+const SESSIONS: u64 = 4;
 const STEPS: usize = 30;
 
 /// A generator of random numbers (xorshift).

@@ -160,31 +160,25 @@ impl Value for Year {
     }
 }
 
-/// Calls a generic function for each element type.
+/// Makes a test for each element type, which calls a generic function of the module `checks`.
 #[macro_export]
 macro_rules! for_each_type {
-    ($($name:ident)*) => {
+    ($name:ident) => {
+        mod $name {
+            crate::for_each_type! {
+                $name;
+                u8: u8, u16: u16, u32: u32, u64: u64, u128: u128, usize: usize,
+                i8: i8, i16: i16, i32: i32, i64: i64, i128: i128, isize: isize,
+                char: char, ipv4: std::net::Ipv4Addr, ipv6: std::net::Ipv6Addr,
+                type_of_a_user: crate::common::Year
+            }
+        }
+    };
+    ($check:ident; $($name:ident: $value:ty),*) => {
         $(
             #[test]
             fn $name() {
-                use std::net::{Ipv4Addr, Ipv6Addr};
-
-                checks::$name::<u8>();
-                checks::$name::<u16>();
-                checks::$name::<u32>();
-                checks::$name::<u64>();
-                checks::$name::<u128>();
-                checks::$name::<usize>();
-                checks::$name::<i8>();
-                checks::$name::<i16>();
-                checks::$name::<i32>();
-                checks::$name::<i64>();
-                checks::$name::<i128>();
-                checks::$name::<isize>();
-                checks::$name::<char>();
-                checks::$name::<Ipv4Addr>();
-                checks::$name::<Ipv6Addr>();
-                checks::$name::<common::Year>();
+                crate::checks::$check::<$value>();
             }
         )*
     };
