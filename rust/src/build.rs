@@ -214,7 +214,8 @@ impl<T: Element> Gathered<T> {
         if self.last.as_mut().is_some_and(|last| last.join(span)) {
             return Ok(());
         }
-        if self.runs.len() >= ROOM.max(self.set.run_count()) {
+        let count = self.runs.len();
+        if count >= ROOM && count >= self.set.run_count() {
             self.flush()?;
         }
         if let Some(last) = self.last.replace(span) {

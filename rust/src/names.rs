@@ -1,4 +1,4 @@
-//! Calls under the names that range-set-blaze has for them.
+//! Calls under the names that range-set-blaze, or the library in Rattle, has for them.
 
 use core::ops::{RangeBounds, RangeInclusive};
 
@@ -20,7 +20,7 @@ pub trait Integer: Element {}
 
 impl<T: Element> Integer for T {}
 
-/// Other names, which range-set-blaze has.
+/// Other names, for those who know range-set-blaze or the library in Rattle.
 impl<T> RangeSet<T> {
     /// Does the same as [`runs`](Self::runs).
     ///

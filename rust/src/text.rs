@@ -40,11 +40,14 @@ impl From<AllocError> for ParseError {
     }
 }
 
-/// Writes the runs, as in `1..=5, 10..=20`. `from_str` reads them as the same set.
+/// Writes the runs, as in `1..=5, 7..=7`. The form `{:#}` writes a run of one value as that value.
+/// `from_str` reads both as the same set.
 ///
 /// ```
 /// # use range_set::RangeSet;
-/// assert_eq!(RangeSet::from_iter([10..=20, -5..=-1]).to_string(), "-5..=-1, 10..=20");
+/// let ports = RangeSet::from([22, 80, 8000, 8001]);
+/// assert_eq!(ports.to_string(), "22..=22, 80..=80, 8000..=8001");
+/// assert_eq!(format!("{ports:#}"), "22, 80, 8000..=8001");
 /// assert_eq!(RangeSet::from('a'..='z').to_string(), "'a'..='z'");
 /// ```
 impl<T: Element + fmt::Display> fmt::Display for RangeSet<T> {
@@ -55,8 +58,10 @@ impl<T: Element + fmt::Display> fmt::Display for RangeSet<T> {
             }
             let (first, last) = run.into_inner();
             first.write_text(f)?;
-            f.write_str("..=")?;
-            last.write_text(f)?;
+            if !f.alternate() || first != last {
+                f.write_str("..=")?;
+                last.write_text(f)?;
+            }
         }
         Ok(())
     }

@@ -154,8 +154,9 @@ impl<T: Value> Pair<T> {
         assert!((!&self.set).runs().eq(gaps));
         assert_eq!(!!&self.set, self.set);
 
-        let text = self.set.to_string();
-        assert_eq!(text.parse().as_ref(), Ok(&self.set), "{text}");
+        for text in [self.set.to_string(), format!("{:#}", self.set)] {
+            assert_eq!(text.parse().as_ref(), Ok(&self.set), "{text}");
+        }
     }
 
     /// Compares the look-ups at a place.
