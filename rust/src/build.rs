@@ -2,9 +2,8 @@
 
 use core::ops::RangeInclusive;
 
-use crate::calls::RunOf;
 use crate::span::{span_of, Span};
-use crate::{allocated, changed, AllocError, Element, RangeSet};
+use crate::{allocated, AllocError, Element, RangeSet};
 
 impl<T> RangeSet<T> {
     /// Returns the set of all values of the type.
@@ -77,11 +76,7 @@ impl<T> RangeSet<T> {
     where
         T: Element,
     {
-        let mut gathered = Gathered::new();
-        for run in runs {
-            gathered.add(span_of(run))?;
-        }
-        gathered.finish()
+        Self::try_from_spans(runs.into_iter().map(span_of))
     }
 
     /// Returns the set of values, which may come in any order and more than once. `collect` and
@@ -96,12 +91,25 @@ impl<T> RangeSet<T> {
     where
         T: Element,
     {
-        let mut gathered = Gathered::new();
-        for value in values {
+        Self::try_from_spans(values.into_iter().map(|value| {
             let rank = value.rank();
-            gathered.add(Span::new(rank, rank))?;
+            Span::new(rank, rank)
+        }))
+    }
+
+    fn try_from_spans(
+        spans: impl IntoIterator<Item = Option<Span<T::Rank>>>,
+    ) -> Result<Self, AllocError>
+    where
+        T: Element,
+    {
+        let mut set = Self::new();
+        let mut joining = Joining::into_set(&mut set);
+        for span in spans {
+            joining.add(span)?;
         }
-        gathered.finish()
+        joining.finish()?;
+        Ok(set)
     }
 
     /// Removes the members for which a function returns false. It is called once for each member,
@@ -185,25 +193,17 @@ impl<T> RangeSet<T> {
     }
 }
 
-/// The least number of runs that are gathered before they are added.
-const ROOM: usize = 1024;
-
-/// A set, and runs that it does not have yet. They are added by one call for many, which takes
-/// less time than one for each. There are at most as many as the set has runs, or a few.
-pub struct Gathered<T: Element> {
-    set: RangeSet<T>,
-    runs: Vec<RunOf<T::Rank>>,
-    /// The last run, which later ones may extend.
+/// Ranges on their way into a set. Each is first joined to the one before it, if it touches that,
+/// so ascending values take one call of the library for each run.
+pub struct Joining<'a, T: Element> {
+    set: &'a mut RangeSet<T>,
+    /// The last range, which the set does not have yet.
     last: Option<Span<T::Rank>>,
 }
 
-impl<T: Element> Gathered<T> {
-    pub fn new() -> Self {
-        Gathered {
-            set: RangeSet::new(),
-            runs: Vec::new(),
-            last: None,
-        }
+impl<'a, T: Element> Joining<'a, T> {
+    pub fn into_set(set: &'a mut RangeSet<T>) -> Self {
+        Joining { set, last: None }
     }
 
     /// Adds the values of ranks, if there are any.
@@ -214,45 +214,20 @@ impl<T: Element> Gathered<T> {
         if self.last.as_mut().is_some_and(|last| last.join(span)) {
             return Ok(());
         }
-        let count = self.runs.len();
-        if count >= ROOM && count >= self.set.run_count() {
-            self.flush()?;
-        }
-        if let Some(last) = self.last.replace(span) {
-            self.push(last)?;
-        }
-        Ok(())
+        let last = self.last.replace(span);
+        self.insert(last)
     }
 
-    /// Returns the set of all values that were added.
-    pub fn finish(mut self) -> Result<RangeSet<T>, AllocError> {
-        if let Some(last) = self.last {
-            self.push(last)?;
-        }
-        self.flush()?;
-        Ok(self.set)
+    /// Adds the last range.
+    pub fn finish(mut self) -> Result<(), AllocError> {
+        let last = self.last.take();
+        self.insert(last)
     }
 
-    fn push(&mut self, span: Span<T::Rank>) -> Result<(), AllocError> {
-        self.runs.try_reserve(1).map_err(|_| AllocError)?;
-        self.runs.push(span.to_run());
-        Ok(())
-    }
-
-    fn flush(&mut self) -> Result<(), AllocError> {
-        let (runs, count) = (self.runs.as_ptr(), self.runs.len());
-        // SAFETY: the array is a vector with so many elements.
-        let call = |out: &mut _| unsafe { (RangeSet::<T>::CALLS.from_runs)(out, runs, count) };
-        let made = RangeSet::built(call)?;
-        if self.set.is_empty() {
-            self.set = made;
-        } else {
-            changed((RangeSet::<T>::CALLS.union_with)(
-                &mut self.set.handle,
-                &made.handle,
-            ))?;
+    fn insert(&mut self, span: Option<Span<T::Rank>>) -> Result<(), AllocError> {
+        if let Some(span) = span {
+            self.set.try_insert_span(span)?;
         }
-        self.runs.clear();
         Ok(())
     }
 }

@@ -216,6 +216,5 @@ calls! {
     fn order(left: &Handle, right: &Handle) -> i32;
     fn is_subset(left: &Handle, right: &Handle) -> bool;
     fn is_disjoint(left: &Handle, right: &Handle) -> bool;
-    fn from_runs(out: &mut Handle, runs: *const Run<V>, count: usize) -> u32;
     fn runs_in(set: &Handle, first: V, last: V, runs: *mut Run<V>, count: usize) -> usize;
 }

@@ -2,7 +2,7 @@
 
 use core::ops::RangeBounds;
 
-use crate::span::span_of;
+use crate::span::{span_of, Span};
 use crate::{allocated, changed, AllocError, Element, RangeSet};
 
 impl<T> RangeSet<T> {
@@ -78,9 +78,14 @@ impl<T> RangeSet<T> {
     where
         T: Element,
     {
-        let Some(span) = span_of(range) else {
-            return Ok(false);
-        };
+        span_of(range).map_or(Ok(false), |span| self.try_insert_span(span))
+    }
+
+    /// Adds the values of ranks and returns whether one of them was new.
+    pub(crate) fn try_insert_span(&mut self, span: Span<T::Rank>) -> Result<bool, AllocError>
+    where
+        T: Element,
+    {
         let (first, last) = (span.first.into(), span.last.into());
         changed((Self::CALLS.insert_range)(&mut self.handle, first, last))
     }

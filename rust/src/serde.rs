@@ -6,7 +6,7 @@ use core::marker::PhantomData;
 use serde::de::{Error, SeqAccess, Visitor};
 use serde::{Deserialize, Deserializer, Serialize, Serializer};
 
-use crate::build::Gathered;
+use crate::build::Joining;
 use crate::span::Span;
 use crate::{Element, RangeSet};
 
@@ -35,14 +35,16 @@ impl<'de, T: Element + Deserialize<'de>> Visitor<'de> for Pairs<T> {
     }
 
     fn visit_seq<A: SeqAccess<'de>>(self, mut pairs: A) -> Result<RangeSet<T>, A::Error> {
-        let mut gathered = Gathered::new();
+        let mut set = RangeSet::new();
+        let mut joining = Joining::into_set(&mut set);
         while let Some((first, last)) = pairs.next_element::<(T, T)>()? {
             let span = Span::new(first.rank(), last.rank());
             if span.is_none() {
                 return Err(Error::custom("the last value of a pair is below the first"));
             }
-            gathered.add(span).map_err(Error::custom)?;
+            joining.add(span).map_err(Error::custom)?;
         }
-        gathered.finish().map_err(Error::custom)
+        joining.finish().map_err(Error::custom)?;
+        Ok(set)
     }
 }

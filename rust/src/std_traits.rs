@@ -4,7 +4,7 @@ use core::cmp::Ordering;
 use core::hash::{Hash, Hasher};
 use core::ops::{Range, RangeInclusive};
 
-use crate::build::Gathered;
+use crate::build::Joining;
 use crate::span::{span_of, Span};
 use crate::{allocated, changed, Element, RangeSet};
 
@@ -74,20 +74,20 @@ macro_rules! collected {
             impl<$($lifetime,)? T: Element> FromIterator<$item> for RangeSet<T> {
                 #[track_caller]
                 fn from_iter<I: IntoIterator<Item = $item>>(items: I) -> Self {
-                    let mut gathered = Gathered::new();
-                    for $given in items {
-                        allocated(gathered.add(span_of($range)));
-                    }
-                    allocated(gathered.finish())
+                    let mut set = Self::new();
+                    set.extend(items);
+                    set
                 }
             }
 
             impl<$($lifetime,)? T: Element> Extend<$item> for RangeSet<T> {
                 #[track_caller]
                 fn extend<I: IntoIterator<Item = $item>>(&mut self, items: I) {
+                    let mut joining = Joining::into_set(self);
                     for $given in items {
-                        self.insert_range($range);
+                        allocated(joining.add(span_of($range)));
                     }
+                    allocated(joining.finish());
                 }
             }
         )*

@@ -3,7 +3,7 @@
 use core::fmt;
 use core::str::FromStr;
 
-use crate::build::Gathered;
+use crate::build::Joining;
 use crate::span::Span;
 use crate::{AllocError, Element, RangeSet};
 
@@ -99,19 +99,20 @@ impl<T: Element + FromStr> FromStr for RangeSet<T> {
     type Err = ParseError;
 
     fn from_str(text: &str) -> Result<Self, ParseError> {
-        let mut gathered = Gathered::new();
+        let mut set = RangeSet::new();
         let mut reader = Reader { text, at: 0 };
         reader.skip_blanks();
         if reader.rest().is_empty() {
-            return Ok(gathered.finish()?);
+            return Ok(set);
         }
-        loop {
-            gathered.add(reader.range::<T>()?)?;
-            if reader.rest().is_empty() {
-                return Ok(gathered.finish()?);
-            }
+        let mut joining = Joining::into_set(&mut set);
+        joining.add(reader.range::<T>()?)?;
+        while !reader.rest().is_empty() {
             reader.expect(",")?;
+            joining.add(reader.range::<T>()?)?;
         }
+        joining.finish()?;
+        Ok(set)
     }
 }
 

@@ -277,7 +277,8 @@ impl<T: Value> Pair<T> {
         assert_eq!([a, b, b].symmetric_difference(), *a);
         assert_eq!([a, b, a].at_least(2), *a);
         let no_set: [&RangeSet<T>; 0] = [];
-        assert!(no_set.intersection().is_universal() && no_set.at_least(0).is_universal());
+        assert_eq!(no_set.intersection(), RangeSet::universe());
+        assert_eq!([a, b].at_least(0), RangeSet::universe());
     }
 
     /// Combines the set in place with another, or keeps some of its members.
