@@ -135,12 +135,15 @@ fn versions() -> (String, String) {
 /// Returns the folder in which `tools/c/build` leaves the library, if it is there.
 fn of_repository() -> Option<PathBuf> {
     let here = PathBuf::from(env::var_os("CARGO_MANIFEST_DIR").unwrap());
-    // The manifest is in rust, or in rust/serde.
-    let above = here.ancestors().skip(1).take(2);
-    let has = |folder: &Path, kind: Kind| folder.join(kind.file()).exists();
-    above
-        .map(|top| top.join("out/lib"))
-        .find(|folder| has(folder, Kind::Static) || has(folder, Kind::Shared))
+    // The second manifest is in a folder of the first one.
+    let first = if here.ends_with("serde") {
+        here.parent()?
+    } else {
+        &here
+    };
+    let folder = first.parent()?.join("out/lib");
+    let has = |kind: Kind| folder.join(kind.file()).exists();
+    (has(Kind::Static) || has(Kind::Shared)).then_some(folder)
 }
 
 /// Returns which form to link: what `RANGE_SET_LINK` says, and otherwise the static one if it is

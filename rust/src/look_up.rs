@@ -3,6 +3,7 @@
 use core::ops::{RangeBounds, RangeInclusive};
 
 use crate::calls::{Handle, RunOf};
+use crate::iterators::Spans;
 use crate::span::{span_of, Span};
 use crate::width::{fitting, Number, Width};
 use crate::{Element, Len, RangeSet};
@@ -320,7 +321,7 @@ impl<T> RangeSet<T> {
     where
         T: Element,
     {
-        let mut runs = self.spans_in(span_of(from..));
+        let mut runs = Spans::between(span_of(from..));
         loop {
             let span = runs.next(self)?;
             if span.has(len) {

@@ -5,6 +5,7 @@ use core::hash::{Hash, Hasher};
 use core::ops::{Range, RangeInclusive};
 
 use crate::build::Joining;
+use crate::iterators::Spans;
 use crate::span::{span_of, Span};
 use crate::{allocated, changed, Element, RangeSet};
 
@@ -59,7 +60,7 @@ impl<T: Element> PartialOrd for RangeSet<T> {
 impl<T: Element> Hash for RangeSet<T> {
     fn hash<H: Hasher>(&self, state: &mut H) {
         self.run_count().hash(state);
-        let mut runs = self.spans_in(Span::of_type::<T>());
+        let mut runs = Spans::between(Span::of_type::<T>());
         while let Some(run) = runs.next(self) {
             (run.first, run.last).hash(state);
         }

@@ -34,3 +34,24 @@ fn a_set_passes_to_another_thread_and_back() {
     });
     assert_eq!(set.join().unwrap().to_string(), "0..=1, 4..=5, 8..=9");
 }
+
+#[test]
+fn sets_of_other_types_are_shared_and_sent() {
+    let letters = RangeSet::from(['a'..='z', 'A'..='Z']);
+    let sites: RangeSet<std::net::Ipv6Addr> = "::1, 2001:db8::..=2001:db8::ff".parse().unwrap();
+    let found = thread::scope(|scope| {
+        let workers = ["Hello, world", "1234", "xyz"].map(|text| {
+            let (letters, sites) = (&letters, &sites);
+            scope.spawn(move || {
+                let found = text.chars().filter(|value| letters.contains(*value));
+                found.count() + sites.runs().len()
+            })
+        });
+        workers.map(|worker| worker.join().unwrap())
+    });
+    assert_eq!(found, [12, 2, 5]);
+    let mut walk = sites.into_iter();
+    walk.next();
+    let rest = thread::spawn(move || walk.count());
+    assert_eq!(rest.join().unwrap(), 256);
+}

@@ -29,6 +29,7 @@ impl<T> RangeSet<T> {
 }
 
 /// Iterates over the gaps of a set, from both ends. [`RangeSet::gaps`] makes it.
+#[must_use]
 #[derive(Clone, Debug)]
 pub struct Gaps<'a, T: Element> {
     set: &'a RangeSet<T>,

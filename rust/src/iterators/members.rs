@@ -23,7 +23,7 @@ impl<T> RangeSet<T> {
     {
         Iter {
             set: self,
-            members: Members::in_span(self, Span::of_type::<T>()),
+            members: Members::between(Span::of_type::<T>()),
             left: self.count(),
         }
     }
@@ -41,7 +41,7 @@ impl<T> RangeSet<T> {
     {
         IterIn {
             set: self,
-            members: Members::in_span(self, span_of(range)),
+            members: Members::between(span_of(range)),
         }
     }
 
@@ -79,12 +79,10 @@ fn take_last<R: Number>(span: &mut Option<Span<R>>) -> Option<R> {
 }
 
 impl<R: Number> Members<R> {
-    fn in_span<T>(set: &RangeSet<T>, span: Option<Span<R>>) -> Self
-    where
-        T: Element<Rank = R>,
-    {
+    /// Returns a walk over the members between two ranks.
+    fn between(ranks: Option<Span<R>>) -> Self {
         Members {
-            spans: set.spans_in(span),
+            spans: Spans::between(ranks),
             front: None,
             back: None,
         }
@@ -123,6 +121,7 @@ impl<R: Number> Members<R> {
 }
 
 /// Iterates over the members of a set, from both ends. [`RangeSet::iter`] makes it.
+#[must_use]
 #[derive(Clone, Debug)]
 pub struct Iter<'a, T: Element> {
     set: &'a RangeSet<T>,
@@ -131,6 +130,7 @@ pub struct Iter<'a, T: Element> {
 }
 
 /// Iterates over the members of a set that it owns, from both ends. `into_iter` makes it.
+#[must_use]
 #[derive(Clone, Debug)]
 pub struct IntoIter<T: Element> {
     set: RangeSet<T>,
@@ -139,6 +139,7 @@ pub struct IntoIter<T: Element> {
 }
 
 /// Iterates over the members of a set in a range, from both ends. [`RangeSet::range`] makes it.
+#[must_use]
 #[derive(Clone, Debug)]
 pub struct IterIn<'a, T: Element> {
     set: &'a RangeSet<T>,
@@ -227,7 +228,7 @@ impl<T: Element> IntoIterator for RangeSet<T> {
 
     fn into_iter(self) -> IntoIter<T> {
         IntoIter {
-            members: Members::in_span(&self, Span::of_type::<T>()),
+            members: Members::between(Span::of_type::<T>()),
             left: self.count(),
             set: self,
         }

@@ -6,4 +6,4 @@ mod runs;
 
 pub use gaps::Gaps;
 pub use members::{IntoIter, Iter, IterIn};
-pub use runs::{IntoRuns, Runs, RunsIn};
+pub use runs::{IntoRuns, Runs, RunsIn, Spans};

@@ -23,7 +23,7 @@ impl<T> RangeSet<T> {
     {
         Runs {
             set: self,
-            spans: self.spans_in(Span::of_type::<T>()),
+            spans: Spans::between(Span::of_type::<T>()),
             left: self.run_count(),
         }
     }
@@ -43,7 +43,7 @@ impl<T> RangeSet<T> {
     {
         RunsIn {
             set: self,
-            spans: self.spans_in(span_of(range)),
+            spans: Spans::between(span_of(range)),
         }
     }
 
@@ -60,20 +60,9 @@ impl<T> RangeSet<T> {
         T: Element,
     {
         IntoRuns {
-            spans: self.spans_in(Span::of_type::<T>()),
+            spans: Spans::between(Span::of_type::<T>()),
             left: self.run_count(),
             set: self,
-        }
-    }
-
-    /// Returns the runs between two ranks, as a walk that has not started.
-    pub(crate) fn spans_in(&self, left: Option<Span<T::Rank>>) -> Spans<T::Rank>
-    where
-        T: Element,
-    {
-        Spans {
-            left,
-            ahead: Ahead::none(),
         }
     }
 
@@ -136,6 +125,14 @@ pub struct Spans<R: Number> {
 }
 
 impl<R: Number> Spans<R> {
+    /// Returns a walk over the runs between two ranks.
+    pub fn between(ranks: Option<Span<R>>) -> Self {
+        Spans {
+            left: ranks,
+            ahead: Ahead::none(),
+        }
+    }
+
     pub fn next<T>(&mut self, set: &RangeSet<T>) -> Option<Span<R>>
     where
         T: Element<Rank = R>,
@@ -167,6 +164,7 @@ impl<R: Number> Spans<R> {
 }
 
 /// Iterates over the runs of a set, from both ends. [`RangeSet::runs`] makes it.
+#[must_use]
 #[derive(Clone, Debug)]
 pub struct Runs<'a, T: Element> {
     set: &'a RangeSet<T>,
@@ -175,6 +173,7 @@ pub struct Runs<'a, T: Element> {
 }
 
 /// Iterates over the runs of a set that it owns, from both ends. [`RangeSet::into_runs`] makes it.
+#[must_use]
 #[derive(Clone, Debug)]
 pub struct IntoRuns<T: Element> {
     set: RangeSet<T>,
@@ -183,6 +182,7 @@ pub struct IntoRuns<T: Element> {
 }
 
 /// Iterates over the runs of a set in a range, from both ends. [`RangeSet::runs_in`] makes it.
+#[must_use]
 #[derive(Clone, Debug)]
 pub struct RunsIn<'a, T: Element> {
     set: &'a RangeSet<T>,

@@ -165,12 +165,12 @@ impl Value for Year {
 macro_rules! for_each_type {
     ($name:ident) => {
         mod $name {
-            crate::for_each_type! {
+            $crate::for_each_type! {
                 $name;
                 u8: u8, u16: u16, u32: u32, u64: u64, u128: u128, usize: usize,
                 i8: i8, i16: i16, i32: i32, i64: i64, i128: i128, isize: isize,
                 char: char, ipv4: std::net::Ipv4Addr, ipv6: std::net::Ipv6Addr,
-                type_of_a_user: crate::common::Year
+                type_of_a_user: $crate::common::Year
             }
         }
     };
@@ -178,7 +178,7 @@ macro_rules! for_each_type {
         $(
             #[test]
             fn $name() {
-                crate::checks::$check::<$value>();
+                $crate::checks::$check::<$value>();
             }
         )*
     };
