@@ -104,7 +104,7 @@ impl<T> RangeSet<T> {
         T: Element,
     {
         let mut set = Self::new();
-        let mut joining = Joining::into_set(&mut set);
+        let mut joining = Joining::new(&mut set);
         for span in spans {
             joining.add(span)?;
         }
@@ -202,7 +202,7 @@ pub struct Joining<'a, T: Element> {
 }
 
 impl<'a, T: Element> Joining<'a, T> {
-    pub fn into_set(set: &'a mut RangeSet<T>) -> Self {
+    pub fn new(set: &'a mut RangeSet<T>) -> Self {
         Joining { set, last: None }
     }
 

@@ -36,7 +36,7 @@ impl<'de, T: Element + Deserialize<'de>> Visitor<'de> for Pairs<T> {
 
     fn visit_seq<A: SeqAccess<'de>>(self, mut pairs: A) -> Result<RangeSet<T>, A::Error> {
         let mut set = RangeSet::new();
-        let mut joining = Joining::into_set(&mut set);
+        let mut joining = Joining::new(&mut set);
         while let Some((first, last)) = pairs.next_element::<(T, T)>()? {
             let span = Span::new(first.rank(), last.rank());
             if span.is_none() {

@@ -84,7 +84,7 @@ macro_rules! collected {
             impl<$($lifetime,)? T: Element> Extend<$item> for RangeSet<T> {
                 #[track_caller]
                 fn extend<I: IntoIterator<Item = $item>>(&mut self, items: I) {
-                    let mut joining = Joining::into_set(self);
+                    let mut joining = Joining::new(self);
                     for $given in items {
                         allocated(joining.add(span_of($range)));
                     }

@@ -105,7 +105,7 @@ impl<T: Element + FromStr> FromStr for RangeSet<T> {
         if reader.rest().is_empty() {
             return Ok(set);
         }
-        let mut joining = Joining::into_set(&mut set);
+        let mut joining = Joining::new(&mut set);
         joining.add(reader.range::<T>()?)?;
         while !reader.rest().is_empty() {
             reader.expect(",")?;
