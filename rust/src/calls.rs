@@ -198,6 +198,7 @@ calls! {
     fn run_after(set: &Handle, value: V, run: &mut Run<V>) -> bool;
     fn run_before(set: &Handle, value: V, run: &mut Run<V>) -> bool;
     fn first_gap(set: &Handle, from: V, len: P, gap: &mut Run<V>) -> bool;
+    fn first_run_of(set: &Handle, from: V, len: P, run: &mut Run<V>) -> bool;
     fn complement(out: &mut Handle, set: &Handle) -> u32;
     fn clone(out: &mut Handle, set: &Handle) -> u32;
     fn sets_add(list: &mut List, set: &Handle) -> u32;

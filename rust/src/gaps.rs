@@ -90,15 +90,7 @@ impl<T> RangeSet<T> {
     where
         T: Element,
     {
-        // At most one gap is longer than what C can ask for.
-        let asked = T::Rank::place(len).or_else(|| T::Rank::place(u64::MAX.into()))?;
-        let mut run = Self::any_run();
-        if !(Self::CALLS.first_gap)(&self.handle, from.rank().into(), asked, &mut run) {
-            return None;
-        }
-        // Only the last gap can extend past the greatest value.
-        let gap = Span::from_run(run).cut(Span::of_type::<T>()?)?;
-        gap.has(len).then(|| gap.values())
+        Some(self.long_by(Self::CALLS.first_gap, from, len)?.values())
     }
 
     /// Returns the gap that contains a rank, or otherwise the first gap after it.

@@ -3,7 +3,6 @@
 use core::ops::{RangeBounds, RangeInclusive};
 
 use crate::calls::{Handle, RunOf};
-use crate::iterators::Spans;
 use crate::span::{span_of, Span};
 use crate::width::{fitting, Number, Width};
 use crate::{Element, Len, RangeSet};
@@ -321,13 +320,34 @@ impl<T> RangeSet<T> {
     where
         T: Element,
     {
-        let mut runs = Spans::between(span_of(from..));
-        loop {
-            let span = runs.next(self)?;
-            if span.has(len) {
-                return Some(span.values());
-            }
+        Some(self.long_by(Self::CALLS.first_run_of, from, len)?.values())
+    }
+
+    /// Returns the first run or gap that has at least `len` values at or after `from`, by a call of
+    /// the library.
+    pub(crate) fn long_by(
+        &self,
+        call: extern "C" fn(
+            &Handle,
+            <T::Rank as Number>::Value,
+            <T::Rank as Number>::Place,
+            &mut RunOf<T::Rank>,
+        ) -> bool,
+        from: T,
+        len: u128,
+    ) -> Option<Span<T::Rank>>
+    where
+        T: Element,
+    {
+        // At most one is longer than what C can ask for.
+        let asked = T::Rank::place(len).or_else(|| T::Rank::place(u64::MAX.into()))?;
+        let mut run = Self::any_run();
+        if !call(&self.handle, from.rank().into(), asked, &mut run) {
+            return None;
         }
+        // Only the last gap can extend past the greatest value.
+        let found = Span::from_run(run).cut(Span::of_type::<T>()?)?;
+        found.has(len).then_some(found)
     }
 
     pub(crate) fn run_by(
