@@ -428,6 +428,8 @@ mod checks {
         assert_eq!(values.iter().collect::<RangeSet<T>>(), wanted);
         assert_eq!(ranges.iter().collect::<RangeSet<T>>(), wanted);
         assert_eq!(RangeSet::from_iter(ranges.clone()), wanted);
+        let overlapping = [(1, 9), (3, 4), (10, 10), (2, 12), (12, 12), (5, 6)];
+        assert_eq!(set::<T>(&overlapping).to_string(), "1..=12");
         let mut grown = RangeSet::from(T::from(1)..=T::from(3));
         grown.extend([T::from(7)]);
         grown.extend(&[T::from(8)]);
