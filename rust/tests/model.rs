@@ -133,8 +133,14 @@ impl<T: Value> Pair<T> {
         assert!(self.set.iter().eq(members.iter().copied()));
         assert!(self.set.iter().rev().eq(members.iter().rev().copied()));
         assert_eq!(self.set.len(), members.len() as u128);
-        let ends = (self.set.first(), self.set.last());
-        assert_eq!(ends, (members.first().copied(), members.last().copied()));
+        let ends = (members.first().copied(), members.last().copied());
+        assert_eq!((self.set.first(), self.set.last()), ends);
+        assert_eq!((self.set.iter().min(), self.set.iter().max()), ends);
+        assert_eq!((self.set.range(..).min(), self.set.range(..).max()), ends);
+        assert_eq!(
+            (self.set.iter().count(), self.set.iter().last()),
+            (members.len(), ends.1)
+        );
         assert_eq!(members.iter().collect::<RangeSet<T>>(), self.set);
 
         let runs: Vec<_> = self.runs().into_iter().map(|run| self.range(run)).collect();

@@ -350,6 +350,10 @@ mod checks {
         let members = [1, 2, 3, 4, 8, 9].map(T::from);
         assert!(a.iter().eq(members) && a.iter().rev().eq(members.into_iter().rev()));
         assert!((&a).into_iter().eq(members) && a.clone().into_iter().eq(members));
+        assert_eq!(
+            (a.range(..).last(), a.iter().skip(2).count()),
+            (a.last(), 4)
+        );
         // Each number of members from the back, then the others from the front.
         for from_back in 0..=members.len() {
             let mut left = a.iter();

@@ -168,6 +168,23 @@ macro_rules! counted_members {
                 fn size_hint(&self) -> (usize, Option<usize>) {
                     self.left.size_hint()
                 }
+
+                fn count(self) -> usize {
+                    let exact = self.size_hint().1;
+                    exact.expect("the set has more members than a usize can say")
+                }
+
+                fn last(mut self) -> Option<T> {
+                    self.next_back()
+                }
+
+                fn min(mut self) -> Option<T> {
+                    self.next()
+                }
+
+                fn max(mut self) -> Option<T> {
+                    self.next_back()
+                }
             }
 
             impl<T: Element> DoubleEndedIterator for $name<$($lifetime,)? T> {
@@ -202,6 +219,18 @@ impl<T: Element> Iterator for IterIn<'_, T> {
     fn nth(&mut self, n: usize) -> Option<T> {
         self.members.skip(self.set, n as u128);
         self.next()
+    }
+
+    fn last(mut self) -> Option<T> {
+        self.next_back()
+    }
+
+    fn min(mut self) -> Option<T> {
+        self.next()
+    }
+
+    fn max(mut self) -> Option<T> {
+        self.next_back()
     }
 }
 
