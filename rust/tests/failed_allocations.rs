@@ -1,6 +1,8 @@
 //! The allocations of a call fail, from each one on. The call then returns an error, or panics, and
 //! its sets are unchanged.
 //!
+//! No block stays allocated.
+//!
 //! The test replaces `malloc` and its like, which only works with the GNU C library.
 #![cfg(all(target_os = "linux", target_env = "gnu"))]
 
@@ -16,6 +18,7 @@ use range_set::{AllocError, Element, ParseError, RangeSet};
 extern "C" {
     fn __libc_malloc(size: usize) -> *mut c_void;
     fn __libc_realloc(block: *mut c_void, size: usize) -> *mut c_void;
+    fn __libc_free(block: *mut c_void);
 }
 
 thread_local! {
@@ -25,6 +28,8 @@ thread_local! {
     static ONCE: Cell<bool> = const { Cell::new(false) };
     /// Whether an allocation failed.
     static FAILED: Cell<bool> = const { Cell::new(false) };
+    /// The number of blocks that this thread has allocated, less those that it has freed.
+    static BLOCKS: Cell<isize> = const { Cell::new(0) };
 }
 
 /// Returns whether this allocation fails.
@@ -46,6 +51,7 @@ unsafe extern "C" fn malloc(size: usize) -> *mut c_void {
     if fails() {
         return ptr::null_mut();
     }
+    BLOCKS.set(BLOCKS.get() + 1);
     unsafe { __libc_malloc(size) }
 }
 
@@ -54,7 +60,14 @@ unsafe extern "C" fn realloc(block: *mut c_void, size: usize) -> *mut c_void {
     if fails() {
         return ptr::null_mut();
     }
+    BLOCKS.set(BLOCKS.get() + isize::from(block.is_null()));
     unsafe { __libc_realloc(block, size) }
+}
+
+#[no_mangle]
+unsafe extern "C" fn free(block: *mut c_void) {
+    BLOCKS.set(BLOCKS.get() - isize::from(!block.is_null()));
+    unsafe { __libc_free(block) }
 }
 
 /// Returns what a call returns if its allocations fail from one number on, and whether it got so far.
@@ -224,6 +237,32 @@ fn a_failed_parse_returns_an_error() {
     parse::<u32>();
     parse::<i64>();
     parse::<u128>();
+}
+
+/// Makes every call, with failed allocations and without, and drops what it returns.
+fn make_and_drop<T: Value>() {
+    change_each::<T>();
+    build_each::<T>();
+    parse::<T>();
+    let set = ten_runs::<T>();
+    let (mut runs, mut members) = (set.clone().into_runs(), set.clone().into_iter());
+    assert!(runs.next().is_some() && members.next_back().is_some());
+    assert!("1, 2..".parse::<RangeSet<T>>().is_err());
+    let mut other = set.clone();
+    other.clone_from(&set);
+    other.clear();
+    other = !set;
+    drop(std::mem::take(&mut other));
+}
+
+#[test]
+fn no_block_stays_allocated() {
+    let before = BLOCKS.get();
+    make_and_drop::<u8>();
+    make_and_drop::<u32>();
+    make_and_drop::<i64>();
+    make_and_drop::<u128>();
+    assert_eq!(BLOCKS.get(), before);
 }
 
 /// Returns whether a call panics if its first allocation fails.

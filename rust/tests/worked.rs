@@ -3,6 +3,7 @@
 mod common;
 
 use std::collections::HashSet;
+use std::hash::{BuildHasher, BuildHasherDefault, DefaultHasher};
 
 use common::{below_greatest, Unsigned};
 use range_set::{ParseError, RangeSet};
@@ -214,6 +215,9 @@ mod checks {
         let mut sets = HashSet::from([set::<T>(&[(1, 5)]), set(&[(1, 2), (4, 5)])]);
         assert!(!sets.insert(set(&[(1, 3), (4, 5)])));
         assert!(sets.insert(set(&[(1, 4)])));
+        let hash = |set: RangeSet<T>| BuildHasherDefault::<DefaultHasher>::default().hash_one(set);
+        assert!(hash(set(&[(1, 5)])) != hash(set(&[(1, 4)])));
+        assert!(hash(set(&[(1, 5)])) != hash(set(&[(2, 5)])));
     }
 
     pub fn changes<T: Unsigned>() {
