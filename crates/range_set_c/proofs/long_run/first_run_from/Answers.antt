@@ -17,11 +17,13 @@ abbrev found-long : (g : Over) (c : Then-is_long g)
     (g.T.SafeLen.SafeLength.number c.args.len) (interval_of g.T.Integer.rank c.in-Some.range)
 found-long g c =
     let rank = g.T.Integer.rank in
+    let runs = intervals_of rank c.ranges_in-ranges.result in
     let all = c.ranges_in-ranges.ensures in
-    fit-along _ _ _ (members-from _ c.args.set.now (intervals_of rank c.ranges_in-ranges.result) _ _ (rank c.args.value) _
-    (ap rank c.new.ensures.start) (ap rank c.new.ensures.end) c.max_value.ensures
-    (all.members c.new.ensures.exhausted)) _ (interval_of rank c.in-Some.range)
-    (passed-fit _ _ (intervals_of rank c.ranges_in-ranges.result) all.ready (interval_of rank c.in-Some.range)
+    fit-along _ _ _
+    (members-from _ c.args.set.now runs _ _ (rank c.args.value) _ (ap rank c.new.ensures.start)
+    (ap rank c.new.ensures.end) c.max_value.ensures (all.members c.new.ensures.exhausted)) _
+    (interval_of rank c.in-Some.range)
+    (passed-fit _ _ runs all.ready (interval_of rank c.in-Some.range)
     (intervals_of rank c.next.new.self) (rw c.in-Some.ensures.steps at c.loop-range.invariant.2)
     (c.is_long.ensures.0 c.if-is_long.true))
 
@@ -35,8 +37,10 @@ returns-then-is_long-clause-first g c = (found-long g c).first
 pub loop-range-preserved : goal.loop-range-preserved
 loop-range-preserved g c =
     let rank = g.T.Integer.rank in
-    let left = passed-next _ _ (intervals_of rank c.ranges_in-ranges.result) c.ranges_in-ranges.ensures.ready (interval_of rank c.in-Some.range)
-    (intervals_of rank c.next.new.self) (rw c.in-Some.ensures.steps at c.loop-range.invariant.2)
+    let runs = intervals_of rank c.ranges_in-ranges.result in
+    let left = passed-next _ _ runs c.ranges_in-ranges.ensures.ready
+    (interval_of rank c.in-Some.range) (intervals_of rank c.next.new.self)
+    (rw c.in-Some.ensures.steps at c.loop-range.invariant.2)
     (falls-short c.is_long.result _ _ c.is_long.ensures c.if-is_long.false) in
     (left.canonical, tt, left)
 
@@ -44,8 +48,9 @@ loop-range-preserved g c =
 pub returns-clause-none : goal.returns-clause-none
 returns-clause-none g c none =
     let rank = g.T.Integer.rank in
+    let runs = intervals_of rank c.ranges_in-ranges.result in
     let all = c.ranges_in-ranges.ensures in
-    shorter-along _ _ _ (members-from _ c.args.set.now (intervals_of rank c.ranges_in-ranges.result) _ _ (rank c.args.value) _
-    (ap rank c.new.ensures.start) (ap rank c.new.ensures.end) c.max_value.ensures
-    (all.members c.new.ensures.exhausted)) _
-    (passed-all _ _ (intervals_of rank c.ranges_in-ranges.result) all.ready (rw c.in_default.ensures.steps.0 at c.loop-range.invariant.2))
+    shorter-along _ _ _
+    (members-from _ c.args.set.now runs _ _ (rank c.args.value) _ (ap rank c.new.ensures.start)
+    (ap rank c.new.ensures.end) c.max_value.ensures (all.members c.new.ensures.exhausted)) _
+    (passed-all _ _ runs all.ready (rw c.in_default.ensures.steps.0 at c.loop-range.invariant.2))
