@@ -1,5 +1,5 @@
-//! Values, runs and numbers of members of sets of `u128`, as C sees them (docs/DECISIONS.md,
-//! wide-by-words).
+//! Values, runs and numbers of members of sets of `u128`, as C sees them
+//! (docs/DECISIONS.md, wide-by-words).
 
 ghost use Rattle.std.specs.Prelude.{◌≡◌};
 ghost use Rattle.rsb_integer.specs.Runs.{from_to};
