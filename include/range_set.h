@@ -1,4 +1,5 @@
-/* Sets of unsigned integers, kept as sorted runs that never touch, for C and languages that call C.
+/* Sets of integers, kept as sorted runs that never touch, for C and languages that call C. The sets
+ * of numbers with a sign are in range_set/i32.h, i64.h and i128.h.
  *
  * The functions are exports of the static library crates/range_set_c, whose contracts are proved.
  * Those that the headers in range_set/ define over the exports are only tested.
@@ -61,9 +62,11 @@ enum {
 #ifdef __cplusplus
 #define RSB_EMPTY {}
 #define RSB_INLINE inline
+#define RSB_PRIVATE_AS(type, value) static_cast<type>(value)
 #else
 #define RSB_EMPTY {0}
 #define RSB_INLINE static inline
+#define RSB_PRIVATE_AS(type, value) ((type)(value))
 #endif
 
 /* A compiler warns if a program ignores what these calls return, since that may be RSB_NO_MEMORY.

@@ -21,11 +21,11 @@ typedef struct rsb_i128_value {
 
 /* Turn a value into one of a set of 128 bits without a sign, in the same order, and back. */
 RSB_INLINE rsb_u128_value rsb_private_i128_in(rsb_i128_value value) {
-    return RSB_U128((uint64_t)value.high ^ UINT64_C(1) << 63, value.low);
+    return RSB_U128(RSB_PRIVATE_AS(uint64_t, value.high) ^ UINT64_C(1) << 63, value.low);
 }
 
 RSB_INLINE rsb_i128_value rsb_private_i128_out(rsb_u128_value value) {
-    return RSB_I128((int64_t)(value.high ^ UINT64_C(1) << 63), value.low);
+    return RSB_I128(RSB_PRIVATE_AS(int64_t, value.high ^ UINT64_C(1) << 63), value.low);
 }
 
 /* Returns -1, 0 or 1 if the left value is less than, equal to or greater than the right one. */
@@ -44,7 +44,7 @@ RSB_INLINE rsb_i128_value rsb_i128_prev(rsb_i128_value value) {
 }
 
 RSB_INLINE void rsb_private_put_i128(rsb_private_page *page, rsb_i128_value value) {
-    rsb_private_signed number = {RSB_U128((uint64_t)value.high, value.low), value.high < 0};
+    rsb_private_signed number = {RSB_U128(RSB_PRIVATE_AS(uint64_t, value.high), value.low), value.high < 0};
     if (number.is_negative) {
         number.magnitude.low = 0 - number.magnitude.low;
         number.magnitude.high = 0 - number.magnitude.high - (number.magnitude.low != 0);
@@ -59,7 +59,7 @@ RSB_INLINE rsb_i128_value rsb_private_i128_of(rsb_private_signed number) {
         words.low = 0 - words.low;
         words.high = 0 - words.high - (words.low != 0);
     }
-    return RSB_I128((int64_t)words.high, words.low);
+    return RSB_I128(RSB_PRIVATE_AS(int64_t, words.high), words.low);
 }
 
 #ifdef __SIZEOF_INT128__
@@ -67,12 +67,13 @@ RSB_INLINE rsb_i128_value rsb_private_i128_of(rsb_private_signed number) {
 __extension__ typedef __int128 rsb_private_i128;
 
 RSB_INLINE rsb_i128_value rsb_i128_from(rsb_private_i128 number) {
-    rsb_u128_value words = rsb_u128_from((rsb_private_u128)number);
-    return RSB_I128((int64_t)words.high, words.low);
+    rsb_u128_value words = rsb_u128_from(RSB_PRIVATE_AS(rsb_private_u128, number));
+    return RSB_I128(RSB_PRIVATE_AS(int64_t, words.high), words.low);
 }
 
 RSB_INLINE rsb_private_i128 rsb_i128_get(rsb_i128_value value) {
-    return (rsb_private_i128)rsb_u128_get(RSB_U128((uint64_t)value.high, value.low));
+    return RSB_PRIVATE_AS(
+        rsb_private_i128, rsb_u128_get(RSB_U128(RSB_PRIVATE_AS(uint64_t, value.high), value.low)));
 }
 #endif
 

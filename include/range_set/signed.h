@@ -26,7 +26,7 @@ RSB_INLINE void rsb_private_put_signed(rsb_private_page *page, rsb_private_signe
 }
 
 RSB_INLINE void rsb_private_put_i64(rsb_private_page *page, int64_t number) {
-    uint64_t magnitude = number < 0 ? 0 - (uint64_t)number : (uint64_t)number;
+    uint64_t magnitude = number < 0 ? 0 - RSB_PRIVATE_AS(uint64_t, number) : RSB_PRIVATE_AS(uint64_t, number);
     rsb_private_signed parts = {RSB_U128(0, magnitude), number < 0};
     rsb_private_put_signed(page, parts);
 }
@@ -91,7 +91,7 @@ RSB_INLINE bool rsb_private_read_number(rsb_private_scan *scan, unsigned bits, r
     }
     size_t start = scan->at;
     while (scan->at < scan->length && scan->text[scan->at] >= '0' && scan->text[scan->at] <= '9') {
-        if (!rsb_private_add_digit(&number->magnitude, (unsigned)(scan->text[scan->at] - '0'), greatest)) {
+        if (!rsb_private_add_digit(&number->magnitude, RSB_PRIVATE_AS(unsigned, scan->text[scan->at] - '0'), greatest)) {
             return false;
         }
         scan->at++;

@@ -24,7 +24,7 @@ RSB_INLINE unsigned rsb_private_last_digit(rsb_u128_value *number) {
     uint64_t least = (most % 10 << 32) | (number->low & UINT32_MAX);
     number->high /= 10;
     number->low = most / 10 << 32 | least / 10;
-    return (unsigned)(least % 10);
+    return RSB_PRIVATE_AS(unsigned, least % 10);
 }
 
 RSB_INLINE void rsb_private_put_u128(rsb_private_page *page, rsb_u128_value number) {
@@ -33,7 +33,7 @@ RSB_INLINE void rsb_private_put_u128(rsb_private_page *page, rsb_u128_value numb
     char *start = digits + MOST;
     *start = '\0';
     do {
-        *--start = (char)('0' + rsb_private_last_digit(&number));
+        *--start = RSB_PRIVATE_AS(char, '0' + rsb_private_last_digit(&number));
     } while (number.high != 0 || number.low != 0);
     rsb_private_put(page, start);
 }

@@ -54,11 +54,11 @@ RSB_INLINE rsb_u128_value rsb_u128_prev(rsb_u128_value value) {
 __extension__ typedef unsigned __int128 rsb_private_u128;
 
 RSB_INLINE rsb_u128_value rsb_u128_from(rsb_private_u128 number) {
-    return RSB_U128((uint64_t)(number >> 64), (uint64_t)number);
+    return RSB_U128(RSB_PRIVATE_AS(uint64_t, number >> 64), RSB_PRIVATE_AS(uint64_t, number));
 }
 
 RSB_INLINE rsb_private_u128 rsb_u128_get(rsb_u128_value value) {
-    return ((rsb_private_u128)value.high << 64) | value.low;
+    return (RSB_PRIVATE_AS(rsb_private_u128, value.high) << 64) | value.low;
 }
 #endif
 
