@@ -335,7 +335,10 @@ static void read_from_text(void) {
     greatest[length - 1]++;
     CHECK(CALL(from_text_at)(&some, greatest, length, &place) == RSB_BAD_TEXT && place == length - 1);
     CHECK(counted(CALL(len)(&some)) == 1);
-    CHECK(CALL(from_text)(&some, least, write_number(least, LEAST)) == RSB_CHANGED && CALL(contains)(&some, LEAST));
+    length = write_number(least, LEAST);
+    CHECK(CALL(from_text)(&some, least, length) == RSB_CHANGED && CALL(contains)(&some, LEAST));
+    least[length - 1]++;
+    CHECK(!SIGNED || (CALL(from_text_at)(&some, least, length, &place) == RSB_BAD_TEXT && place == length - 1));
     CHECK(CALL(from_text)(&some, "-0", 2) == RSB_CHANGED && CALL(contains)(&some, 0) && counted(CALL(len)(&some)) == 1);
     CHECK(CALL(from_text_at)(&some, "5, -1", 5, &place) == (SIGNED ? RSB_CHANGED : RSB_BAD_TEXT));
     CHECK(SIGNED ? CALL(contains)(&some, (number)-1) : place == 4);
@@ -344,6 +347,48 @@ static void read_from_text(void) {
     CHECK(CALL(from_text)(&some, "1..=5", 4) == RSB_BAD_TEXT && CALL(run_count)(&some) == 0);
     CALL(free)(&some);
 }
+
+#if SIGNED
+#if WIDTH == 64
+#define PLAIN(name) rsb_u64_##name
+typedef rsb_u64 plain_set_t;
+#elif WIDTH == 32
+#define PLAIN(name) rsb_u32_##name
+typedef rsb_u32 plain_set_t;
+#else
+#define PLAIN(name) rsb_u128_##name
+typedef rsb_u128 plain_set_t;
+#endif
+
+/* Text with no minus sign, and with short numbers, is read as the export for numbers without signs reads it. */
+static void read_as_without_signs(void) {
+    enum { TEXTS = 100000, LONG = 9 };
+    static const char bytes[] = "0179,,..=+ \t\rx";
+    unsigned long long good = 0;
+    for (int i = 0; i < TEXTS; i++) {
+        char text[LONG], one[LONGEST], other[LONGEST];
+        size_t length = drawn(LONG + 1), at = 99, plain_at = 99, found = 0, plain_found = 0;
+        for (size_t place = 0; place < length; place++) {
+            text[place] = bytes[drawn(sizeof bytes - 1)];
+        }
+        if (length > 5 && drawn(2)) {
+            memcpy(text + drawn(length - 4), "..=", 3);
+        }
+        set_t set = RSB_EMPTY;
+        plain_set_t plain_set = RSB_EMPTY;
+        uint32_t answer = CALL(from_text_at)(&set, text, length, &at);
+        CHECK(answer == PLAIN(from_text_at)(&plain_set, text, length, &plain_at) && at == plain_at);
+        CHECK((at == 99) == (answer == RSB_CHANGED));
+        CHECK(CALL(to_text)(&set, one, sizeof one, &found) == RSB_CHANGED);
+        CHECK(PLAIN(to_text)(&plain_set, other, sizeof other, &plain_found) == RSB_CHANGED);
+        CHECK(found == plain_found && !memcmp(one, other, found));
+        good += answer == RSB_CHANGED;
+        CALL(free)(&set);
+        PLAIN(free)(&plain_set);
+    }
+    CHECK(good > TEXTS / 50 && held == 0);
+}
+#endif
 
 int main(void) {
     for (unsigned long long start = 1; start <= ROUNDS; start++) {
@@ -358,6 +403,9 @@ int main(void) {
     changed_by_nothing();
     made_of_nothing();
     read_from_text();
+#if SIGNED
+    read_as_without_signs();
+#endif
     printf(SIGN "%d: each call agrees with its table, %llu allocations refused\n", WIDTH, refusals);
     return 0;
 }
