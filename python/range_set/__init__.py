@@ -1,10 +1,10 @@
-"""Sets of ints, kept as sorted runs that never touch: {1, 2, 3, 7, 8} is 1..=3, 7..=8.
+"""Sets of ints, dates, addresses and other values, kept as sorted runs: {1, 2, 3, 7, 8} is 1..=3, 7..=8.
 
 The sets are those of Wooljasper's C library, whose calls are proved. This package is not proved:
 it checks each argument, owns the memory, and makes the calls.
 
     >>> from range_set import RangeSet
-    >>> open_hours = RangeSet([range(9, 12), range(13, 19)])
+    >>> open_hours = RangeSet([range(9, 12), (13, 18)])
     >>> open_hours.add(12)
     True
     >>> open_hours
@@ -13,12 +13,38 @@ it checks each argument, owns the memory, and makes the calls.
     '9..=9, 15..=18'
 """
 
-from ._sets import FrozenRangeSet, RangeSet
-from ._values import Run
+from ._core import Run
+from ._elements import Element
+from ._sets import (
+    AddressSet,
+    CharSet,
+    DateSet,
+    ElementSet,
+    FrozenAddressSet,
+    FrozenCharSet,
+    FrozenDateSet,
+    FrozenElementSet,
+    FrozenRangeSet,
+    RangeSet,
+)
 
-__all__ = ["FrozenRangeSet", "RangeSet", "Run"]
+__all__ = [
+    "AddressSet",
+    "CharSet",
+    "DateSet",
+    "Element",
+    "ElementSet",
+    "FrozenAddressSet",
+    "FrozenCharSet",
+    "FrozenDateSet",
+    "FrozenElementSet",
+    "FrozenRangeSet",
+    "RangeSet",
+    "Run",
+]
 __version__ = "0.1.0"
 
 # Messages and pickles name this package, and no module inside of it.
-for _public in (FrozenRangeSet, RangeSet, Run):
-    _public.__module__ = __name__
+for _name in __all__:
+    if _name != "Run":
+        globals()[_name].__module__ = __name__

@@ -1,18 +1,15 @@
-"""The part of both kinds of range sets that only reads them: look-ups, walks, text and copies."""
+"""The part of all range sets that only reads them: places, walks, arrays, text and copies."""
 
 from __future__ import annotations
 
-import ctypes
 from array import array
 from collections import abc
-from itertools import chain
 from operator import index
-from struct import pack, unpack
 from typing import (
     TYPE_CHECKING,
-    AbstractSet,
     Any,
-    Callable,
+    Dict,
+    Generic,
     Iterable,
     Iterator,
     Optional,
@@ -24,312 +21,262 @@ from typing import (
     overload,
 )
 
-from ._calls import Calls, calls_for
-from ._values import Run, Values, all_ends, checked, held_ends, ints_twice, range_ends, whole
+from . import _core
+from ._arrays import array_of, numbers_of
+from ._core import Run
+from ._elements import Element, Ints
+from ._picture import picture
 from ._walks import Gaps, Runs
 
-# Type checkers see sets of ints, and the interpreter sees the class without a parameter.
+T = TypeVar("T")
+V = TypeVar("V")  # what a call on one value takes
+I = TypeVar("I")  # what an item of an iterable is
+Self = TypeVar("Self", bound="Reads[Any, Any, Any]")
+
+# Type checkers see sets, and the interpreter only sees their registration.
 if TYPE_CHECKING:
-    IntSet = AbstractSet[int]
+
+    class Base(_core.Set[T, V], Generic[T, V, I]): ...
+
 else:
-    IntSet = abc.Set
-
-# The greatest number that the C library takes as an index or a length, for sets of both widths.
-LONGEST = 2**64 - 1
-
-Self = TypeVar("Self", bound="Reads")
-Source = Union["Reads", range, Run, Iterable[Values]]
-Ends = Callable[[Any, int], Iterable[Tuple[int, int]]]
+    Base = _core.Set
 
 
-class Reads(IntSet):
-    """A set that owns its handle, and the calls for its width."""
+class Reads(Base[T, V, I]):
+    """A set of values that have an order, kept as runs that never touch."""
 
-    __slots__ = ("_calls", "_handle", "_changes", "__weakref__")
-    _calls: Calls
-    _handle: Any
-    _changes: int  # how many calls have changed the set
+    __slots__ = ("__weakref__",)
 
-    def _begin(self, values: Source, bits: Optional[int]) -> None:
-        """Makes this the set of some values."""
-        if bits is None:
-            bits = values.bits if isinstance(values, Reads) else 64
-        self._own(calls_for(bits))
-        if isinstance(values, Reads) and values.bits == bits:
-            self._calls.clone(self._handle, values._handle)
-        else:
-            self._set_to(values, all_ends)
+    # numpy would take a set for an array of its members, and a - b for their differences.
+    __array_ufunc__ = None
 
-    def _own(self, calls: Calls) -> None:
-        """Makes this an empty set of a width."""
-        self._calls, self._handle, self._changes = calls, calls.handle(), 0
+    # ---- How sets are made. Each type of sets says which elements it has.
 
     @classmethod
-    def _empty(cls: Type[Self], calls: Calls) -> Self:
-        made = object.__new__(cls)
-        made._own(calls)
+    def _element_for(cls, values: object, **options: Any) -> Element[Any]:
+        """Returns the element that the options of a constructor name, for some values."""
+        raise NotImplementedError
+
+    def _options(self) -> Dict[str, Any]:
+        """Returns the options by which a constructor makes such a set."""
+        return {}
+
+    @classmethod
+    def _new(cls: Type[Self], element: Element[Any]) -> Self:
+        """Returns an empty set, without a call of the constructor."""
+        made: Self = _core.Set.__new__(cls)
+        made._begin(element)
         return made
 
-    def _clone(self: Self) -> Self:
-        made = self._empty(self._calls)
-        self._calls.clone(made._handle, self._handle)
-        return made
+    def _start(self, values: Any, element: Element[Any]) -> None:
+        """Makes this the set of some values."""
+        self._begin(element)
+        if isinstance(values, Reads) and values.element == element:
+            self._take(values._copy())
+        else:
+            self._take(self._gathered(values, True)[0])
 
-    def _set_to(self, values: Source, ends: Ends) -> None:
-        """Makes this new set the set of some values, whose ends `ends` yields."""
-        calls = self._calls
-        each = values.runs() if isinstance(values, Reads) else values
-        flat = ints_twice(each, calls.code)
-        if flat is None:
-            flat = array(calls.code, chain.from_iterable(ends(each, calls.greatest)))
-        if flat:
-            count = len(flat) // 2
-            calls.from_runs(self._handle, (calls.run * count).from_buffer(flat), count)
+    def _gathered(self: Self, values: Any, is_adding: bool, is_operand: bool = False) -> Tuple[Self, bool]:
+        """Returns the set of some values, and whether there are others that a set of this type cannot have.
 
-    def _unchanged_since(self, seen: int) -> None:
-        """Raises RuntimeError if the set has changed since a walk began."""
-        if self._changes != seen:
-            raise RuntimeError("the set changed during iteration")
-
-    def _run(self, call: Any, *arguments: int) -> Optional[Run]:
-        """Returns the run or gap that a call stores, or None if it stores none."""
-        block = self._calls.run()
-        return Run(block.first, block.last) if call(self._handle, *arguments, block) else None
-
-    def _value(self, call: Any, *arguments: int) -> Optional[int]:
-        """Returns the value that a call stores, or None if it stores none."""
-        value = self._calls.number()
-        return value.value if call(self._handle, *arguments, value) else None
-
-    @property
-    def bits(self) -> int:
-        """The width of the values, 32 or 64: they are the ints from 0 to 2**bits - 1."""
-        return self._calls.bits
-
-    # ---- Members.
-
-    def __contains__(self, values: object) -> bool:
-        """Returns whether a value, or each value of a `range` or a `Run`, is a member.
-
-        As for a Python set, a value may be of any hashable type, and 1.0 is the same value as 1.
+        If it is for adding, these raise an exception. The items of a Python set that is an operand
+        are its members, and no ranges.
         """
-        if isinstance(values, (range, Run)):
-            first, last = range_ends(values)
-            fits = first >= 0 and last <= self._calls.greatest
-            return fits and self._calls.contains_range(self._handle, first, last)
-        return self._has(values)
+        if isinstance(values, Reads):
+            return self._filled([(run.first, run.last) for run in values.runs()], is_adding, False)
+        if isinstance(values, tuple):
+            if len(values) not in (0, 2):
+                raise TypeError("a tuple is a run with two ends, such as (1, 5): write a list of values and runs")
+            return self._filled([values] if values else [], is_adding, False)
+        if isinstance(values, Run) or (isinstance(values, range) and values.step == 1):
+            return self._filled([values], is_adding, False)
+        if isinstance(values, str) and not isinstance(self.element.least, str):
+            raise TypeError("parse() reads a set from text")
+        numbers = numbers_of(values) if isinstance(self.element, Ints) else None
+        if numbers is not None:
+            return self._filled_by(*numbers, is_adding)
+        return self._filled(values, is_adding, is_operand and isinstance(values, abc.Set))
 
-    def _has(self, value: object) -> bool:
-        """Returns whether an object equals a member."""
-        number = value if type(value) is int else whole(value)
-        calls = self._calls
-        return number is not None and 0 <= number <= calls.greatest and calls.contains(self._handle, number)
-
-    def __bool__(self) -> bool:
-        return self._calls.run_count(self._handle) > 0
-
-    def __len__(self) -> int:
-        """Returns the number of members, or raises OverflowError if it is above `sys.maxsize`."""
-        return self._calls.len(self._handle)
-
-    def count(self, values: Optional[Values] = None, last: Optional[SupportsIndex] = None) -> int:
-        """Returns the number of members, or of those among some values, however many they are.
-
-        `count(1, 5)`, `count(range(1, 6))` and `count(Run(1, 5))` count from 1 to 5.
-        """
-        if values is None:
-            return self._calls.len(self._handle)
-        if not isinstance(values, (range, Run)):
-            values = Run(index(values), index(values if last is None else last))
-        elif last is not None:
-            raise TypeError("count takes a first and a last value, or one range or run")
-        return self._calls.len_in(self._handle, *held_ends(values, None, self._calls.greatest))
-
-    def rank(self, value: SupportsIndex) -> int:
-        """Returns the number of members below a value, which need not be a member."""
-        return self._calls.rank(self._handle, checked(value, self._calls.greatest))
-
-    def first(self) -> Optional[int]:
-        """Returns the least member, or None if the set is empty."""
-        return self._value(self._calls.first)
-
-    def last(self) -> Optional[int]:
-        """Returns the greatest member, or None if the set is empty."""
-        return self._value(self._calls.last)
+    # ---- Places.
 
     @overload
-    def __getitem__(self, place: SupportsIndex) -> int: ...
+    def __getitem__(self, place: SupportsIndex) -> T: ...
 
     @overload
     def __getitem__(self: Self, place: slice) -> Self: ...
 
-    def __getitem__(self: Self, place: Union[SupportsIndex, slice]) -> Union[int, Self]:
+    def __getitem__(self: Self, place: Union[SupportsIndex, slice]) -> Any:
         """Returns the member at a place of the ascending list of members, as the list would.
 
         A slice gives the set of the members at its places. Its step is 1.
+
+            >>> RangeSet([range(1, 6), range(10, 21)])[-1]
+            20
         """
         if isinstance(place, slice):
             return self._at_places(*place.indices(self.count()))
         number = index(place)
         if number < 0:
             number += self.count()
-        found = self._value(self._calls.nth, number) if 0 <= number <= LONGEST else None
-        if found is None:
+        if number < 0:
             raise IndexError("the set has no member at this place")
-        return found
+        return self._nth(number)
 
     def _at_places(self: Self, start: int, stop: int, step: int) -> Self:
         if step != 1:
             raise ValueError("a slice of a set has step 1")
-        made = self._empty(self._calls)
-        if start < stop:
-            window = self._empty(self._calls)
-            window._set_to(Run(self[start], self[stop - 1]), all_ends)
-            self._calls.intersection(made._handle, self._handle, window._handle)
-        return made
+        if start >= stop:
+            return self._empty()
+        window = self._filled([(self._nth(start), self._nth(stop - 1))], True, False)[0]
+        return self._combine(1, window)
 
-    def __iter__(self) -> Iterator[int]:
-        """Yields the members in ascending order.
-
-        If the set changes during the walk, the next step raises RuntimeError, as for a Python set.
-        """
-        seen = self._changes
-        for run in self.runs():
-            for value in run.values():
-                yield value
-                if self._changes != seen:
-                    self._unchanged_since(seen)
-
-    def __reversed__(self) -> Iterator[int]:
+    def __reversed__(self) -> Iterator[T]:
         """Yields the members in descending order, as `iter` yields them in ascending order."""
-        seen = self._changes
-        for run in reversed(self.runs()):
-            for value in reversed(run.values()):
-                yield value
-                if self._changes != seen:
-                    self._unchanged_since(seen)
+        return self._walk(_core.VALUES, True)
 
     # ---- Runs and gaps.
 
-    def runs(self) -> Runs:
-        """Returns a view of the runs, to iterate over in either direction."""
+    def runs(self) -> Runs[T]:
+        """Returns a view of the runs, to iterate over in either direction.
+
+            >>> for first, last in RangeSet([range(5), 9]).runs():
+            ...     print(first, last)
+            0 4
+            9 9
+        """
         return Runs(self)
 
-    def ranges(self) -> Runs:
+    def ranges(self) -> Runs[T]:
         """Returns the same as `runs`."""
         return Runs(self)
 
-    def gaps(self) -> Gaps:
-        """Returns a view of the gaps, to iterate over in either direction."""
+    def gaps(self) -> Gaps[T]:
+        """Returns a view of the gaps, to iterate over in either direction.
+
+            >>> list(RangeSet([range(2**63)]).gaps())
+            [Run(first=-9223372036854775808, last=-1)]
+        """
         return Gaps(self)
 
-    def run_of(self, value: SupportsIndex) -> Optional[Run]:
-        """Returns the run that contains a value, or None if the value is not a member."""
-        found, block = self._run_or_gap(value)
-        return block if found else None
+    def runs_in(self: Self, first: V, last: V) -> Runs[T]:
+        """Returns a view of the runs of the members from first to last, both included.
 
-    def gap_of(self, value: SupportsIndex) -> Optional[Run]:
-        """Returns the gap that contains a value, or None if the value is a member."""
-        found, block = self._run_or_gap(value)
-        return None if found else block
+        A run that crosses a bound is shortened to its values between the bounds.
 
-    def _run_or_gap(self, value: SupportsIndex) -> Tuple[bool, Run]:
-        block = self._calls.run()
-        number = checked(value, self._calls.greatest)
-        found = self._calls.run_or_gap(self._handle, number, block)
-        return found, Run(block.first, block.last)
-
-    def next_run(self, value: SupportsIndex = 0) -> Optional[Run]:
-        """Returns the run that contains a value, or else the first run after it, or None."""
-        return self._run(self._calls.next_run, checked(value, self._calls.greatest))
-
-    def prev_run(self, value: Optional[SupportsIndex] = None) -> Optional[Run]:
-        """Returns the run that contains a value, or else the last run before it, or None.
-
-        Without a value, it starts from the greatest one.
+            >>> list(RangeSet([range(5), 9, 20]).runs_in(3, 10))
+            [Run(first=3, last=4), Run(first=9, last=9)]
         """
-        greatest = self._calls.greatest
-        return self._run(self._calls.prev_run, greatest if value is None else checked(value, greatest))
+        window = self._filled([Run(first, last)], True, False)[0]
+        return Runs(self._combine(1, window))
 
-    def run_after(self, value: SupportsIndex) -> Optional[Run]:
-        """Returns the first run that starts after a value, or None."""
-        return self._run(self._calls.run_after, checked(value, self._calls.greatest))
+    @classmethod
+    def from_runs(cls: Type[Self], runs: Iterable[Any], **options: Any) -> Self:
+        """Returns the set of some runs: pairs of a first and a last value, both included.
 
-    def run_before(self, value: SupportsIndex) -> Optional[Run]:
-        """Returns the last run that ends before a value, or None."""
-        return self._run(self._calls.run_before, checked(value, self._calls.greatest))
+        The pairs are runs, tuples or lists of two, or the rows of an array with two columns. A run
+        whose last value is below its first one has no values. The options are those of the
+        constructor.
 
-    def next_gap(self, value: SupportsIndex = 0) -> Optional[Run]:
-        """Returns the gap that contains a value, or else the first gap after it, or None."""
-        found, block = self._run_or_gap(value)
-        if not found:
-            return block
-        return None if block.last == self._calls.greatest else self.gap_of(block.last + 1)
-
-    def prev_gap(self, value: Optional[SupportsIndex] = None) -> Optional[Run]:
-        """Returns the gap that contains a value, or else the last gap before it, or None.
-
-        Without a value, it starts from the greatest one.
+            >>> RangeSet.from_runs([(7, 9), [1, 5]])
+            RangeSet([range(1, 6), range(7, 10)])
         """
-        found, block = self._run_or_gap(self._calls.greatest if value is None else value)
-        if not found:
-            return block
-        return None if block.first == 0 else self.gap_of(block.first - 1)
+        if numbers_of(runs) is None:
+            runs = [run if isinstance(run, Run) else Run(*run) for run in runs]
+        made = cls._new(cls._element_for(runs, **options))
+        made._take(made._gathered(runs, True)[0])
+        return made
 
-    def gap_after(self, value: SupportsIndex) -> Optional[Run]:
-        """Returns the first gap that starts after a value, or None."""
-        run = self.next_run(value)
-        return None if run is None or run.last == self._calls.greatest else self.gap_of(run.last + 1)
+    # ---- Arrays.
 
-    def gap_before(self, value: SupportsIndex) -> Optional[Run]:
-        """Returns the last gap that ends before a value, or None."""
-        run = self.prev_run(value)
-        return None if run is None or run.first == 0 else self.gap_of(run.first - 1)
+    def to_array(self) -> array[int]:
+        """Returns the members as an `array`, which `numpy.asarray` takes without a copy.
 
-    def first_gap(self, length: SupportsIndex = 1, start: SupportsIndex = 0) -> Optional[Run]:
-        """Returns the first gap with at least `length` values at or after `start`, or None.
+        Only sets of ints of 32 and 64 bits have arrays.
 
-        If that gap starts before `start`, returns only its part at or after `start`.
+            >>> RangeSet([range(3), 9]).to_array()
+            array('l', [0, 1, 2, 9])
         """
-        wanted = index(length)
-        if wanted < 1:
-            raise ValueError("the length of a gap is at least 1")
-        ends = checked(start, self._calls.greatest), min(wanted, LONGEST)
-        gap = self._run(self._calls.first_gap, *ends)
-        return gap if gap is not None and gap.size >= wanted else None
+        element = self._ints()
+        return array_of(self._values_bytes(), element.bits, element.signed)
 
-    # ---- Text and copies.
+    def runs_array(self) -> array[int]:
+        """Returns the first and the last value of each run, one after the other, as an `array`.
+
+        `numpy.asarray(s.runs_array()).reshape(-1, 2)` has a row for each run, and makes no copy.
+
+            >>> RangeSet([range(3), 9]).runs_array()
+            array('l', [0, 2, 9, 9])
+        """
+        element = self._ints()
+        return array_of(self._ends_bytes(False), element.bits, element.signed)
+
+    def contains_array(self, values: Any) -> memoryview:
+        """Returns for each value whether it is a member, as a buffer of booleans.
+
+        `numpy.asarray` makes an array of it without a copy.
+
+            >>> RangeSet(range(5)).contains_array([3, 7]).tolist()
+            [True, False]
+        """
+        numbers = numbers_of(values) if isinstance(self.element, Ints) else None
+        if numbers is None:
+            found = bytes(map(self.__contains__, values))
+        else:
+            found = self._has_numbers(*numbers[:3])
+        return memoryview(found).cast("?")
+
+    def _ints(self) -> Ints:
+        element = self.element
+        if not isinstance(element, Ints):
+            raise TypeError("only sets of ints have arrays of numbers")
+        return element
+
+    def __array__(self, *arguments: Any, **options: Any) -> Any:
+        """Returns the members as an array of numpy, which is what `numpy.array(s)` calls."""
+        import numpy
+
+        plain = isinstance(self.element, Ints) and self.element.bits < 128
+        options.pop("copy", None)
+        return numpy.array(self.to_array() if plain else list(self), *arguments, **options)
+
+    # ---- Text and pictures.
 
     def __str__(self) -> str:
         """Returns the runs as text, such as `1..=5, 10..=20`, which `parse` reads."""
-        length = ctypes.c_size_t()
-        text = ctypes.create_string_buffer(0)
-        while not self._calls.to_text(self._handle, text, len(text), length):
-            text = ctypes.create_string_buffer(length.value)
-        return text.raw[: length.value].decode("ascii")
+        text: str = self.element.text_of_runs(iter(self.runs()))
+        return text
 
     def __repr__(self) -> str:
-        parts = [repr([run.values() for run in self.runs()])] if self else []
-        parts += [] if self.bits == 64 else [f"bits={self.bits}"]
+        if isinstance(self.element, Ints):
+            parts = [repr([run.values() for run in self.runs()])] if self else []
+        else:
+            parts = [repr([tuple(run) for run in self.runs()])] if self else []
+        parts += [f"{name}={value!r}" for name, value in self._options().items()]
         return f"{type(self).__name__}({', '.join(parts)})"
 
     @classmethod
-    def parse(cls: Type[Self], text: str, *, bits: int = 64) -> Self:
-        """Returns the set of the values of the ranges that text lists, such as `1..=5, 10..=20`.
-
-        The ranges may come in any order and may overlap. A single value such as `5` means `5..=5`.
-        A range whose start is past its end has no members. Spaces, tabs and ends of lines
-        are allowed around each number. Raises ValueError for any other text, and for a number that
-        does not fit.
-        """
-        made = cls._empty(calls_for(bits))
-        data = str.encode(text)  # for other types than str, TypeError
-        made._calls.from_text(made._handle, data, len(data))
+    def _parsed(cls: Type[Self], text: str, **options: Any) -> Self:
+        """Returns the set of the values and ranges that text lists."""
+        if not isinstance(text, str):
+            raise TypeError(f"parse() reads a str, and not a {type(text).__name__}")
+        element = cls._element_for((), **options)
+        try:
+            items = list(element.runs_in_text(text))
+            made = cls._new(cls._element_for(items, **options))
+            made._take(made._filled(items, True, False)[0])
+        except OverflowError as error:
+            raise ValueError(f"the text has a value too many: {error}") from None
         return made
+
+    def _repr_svg_(self) -> str:
+        """Returns a drawing of the runs on a line, which a notebook shows."""
+        return picture(self)
+
+    # ---- Copies.
 
     def copy(self: Self) -> Self:
         """Returns a copy, which owns its own memory."""
-        return self._clone()
+        return self._copy()
 
     def __copy__(self: Self) -> Self:
         return self.copy()
@@ -338,14 +285,19 @@ class Reads(IntSet):
         return self.copy()
 
     def __reduce__(self) -> Tuple[Any, ...]:
-        ends = [end for run in self.runs() for end in run]
-        kept = self.bits, pack(f"<{len(ends)}Q", *ends)
-        return self._restored, kept, getattr(self, "__dict__", None)
+        kept = self._options(), self._ends_bytes(True)
+        return self._unpickled, kept, getattr(self, "__dict__", None)
+
+    @classmethod
+    def _unpickled(cls: Type[Self], options: Dict[str, Any], data: bytes) -> Self:
+        """Returns the set whose runs have these ranks as ends, which is what a pickle keeps."""
+        made = cls._new(cls._element_for((), **options))
+        made._take(made._of_ranks(data)[0])
+        return made
 
     @classmethod
     def _restored(cls: Type[Self], bits: int, data: bytes) -> Self:
-        """Returns the set whose runs have these ends, which is what a pickle keeps."""
-        ends = iter(unpack(f"<{len(data) // 8}Q", data))
-        made = cls._empty(calls_for(bits))
-        made._set_to((Run(first, last) for first, last in zip(ends, ends)), all_ends)
+        """Returns the set of a pickle of version 0.1, whose sets had no ints below 0."""
+        made = cls._new(cls._element_for((), bits=bits, signed=False))
+        made._take(made._gathered(memoryview(data).cast("Q", (len(data) // 16, 2)) if data else [], True)[0])
         return made
