@@ -106,7 +106,7 @@ def compiled(folder):
     words = [*cc, *FLAGS, "-isystem", python, "-I", str(header_folder(library)), *sources, str(library), "-o", str(module)]
     ran = subprocess.run(words, stdout=subprocess.PIPE, stderr=subprocess.STDOUT, text=True)
     if ran.returncode:
-        fail(f"range_set: the extension module does not compile, so nothing is installed:\n{ran.stdout}")
+        fail(f"range_set: the extension module does not compile, so nothing is installed:\n{ran.stdout[:2000]}")
     script = f"import sys; sys.path.insert(0, {str(folder)!r}); import _core; print(_core.version)"
     ran = subprocess.run([sys.executable, "-c", script], stdout=subprocess.PIPE, stderr=subprocess.STDOUT, text=True)
     if ran.stdout != f"{VERSION}\n":

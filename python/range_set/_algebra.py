@@ -9,7 +9,7 @@ from typing import Any, Iterable, List, Optional, SupportsIndex, Tuple, Type, Ty
 from ._arrays import is_array
 from ._core import Run
 from ._elements import Ints
-from ._reads import I, Reads, T, V
+from ._reads import I, Reads, T, V, checked_pair
 
 Self = TypeVar("Self", bound="Algebra[Any, Any, Any]")
 
@@ -151,6 +151,8 @@ class Algebra(Reads[T, V, I]):
         """Returns whether both sets have the same members."""
         if not is_operand(other):
             return NotImplemented
+        if isinstance(other, tuple):
+            checked_pair(other)
         try:
             made, has_others = self._compared(other, True)
         except TypeError:

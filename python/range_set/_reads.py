@@ -12,7 +12,7 @@ from typing import (
     Generic,
     Iterable,
     Iterator,
-    Optional,
+    List,
     SupportsIndex,
     Tuple,
     Type,
@@ -40,6 +40,13 @@ if TYPE_CHECKING:
 
 else:
     Base = _core.Set
+
+
+def checked_pair(values: Tuple[Any, ...]) -> List[Any]:
+    """Returns a list of the run that a tuple is. The empty tuple is none. Others raise TypeError."""
+    if len(values) not in (0, 2):
+        raise TypeError("a tuple is a run with two ends, such as (1, 5): write a list of values and runs")
+    return [values] if values else []
 
 
 class Reads(Base[T, V, I]):
@@ -85,9 +92,7 @@ class Reads(Base[T, V, I]):
         if isinstance(values, Reads):
             return self._filled([(run.first, run.last) for run in values.runs()], is_adding, False)
         if isinstance(values, tuple):
-            if len(values) not in (0, 2):
-                raise TypeError("a tuple is a run with two ends, such as (1, 5): write a list of values and runs")
-            return self._filled([values] if values else [], is_adding, False)
+            return self._filled(checked_pair(values), is_adding, False)
         if isinstance(values, Run) or (isinstance(values, range) and values.step == 1):
             return self._filled([values], is_adding, False)
         if isinstance(values, str) and not isinstance(self.element.least, str):

@@ -249,7 +249,7 @@ class FrozenRangeSet(IntOptions, Freezes[int, Int, IntItem]):
 # ---- Values of other types.
 
 
-class ElementOptions(Reads[Any, Any, Any]):
+class ElementOptions(Reads[T, V, I]):
     """The element of a set, which its class may fix."""
 
     __slots__ = ()
@@ -269,7 +269,7 @@ class ElementOptions(Reads[Any, Any, Any]):
 Item = Union[T, Run[T], Tuple[T, T]]
 
 
-class ElementSet(ElementOptions, Changes[T, T, Item[T]], Generic[T]):
+class ElementSet(ElementOptions[T, T, Item[T]], Changes[T, T, Item[T]]):
     """A set of values of any type that an `Element` describes, with the calls of a `RangeSet`.
 
         >>> class Level(Enum):
@@ -291,7 +291,7 @@ class ElementSet(ElementOptions, Changes[T, T, Item[T]], Generic[T]):
         return cls._parsed(text, element=element)
 
 
-class FrozenElementSet(ElementOptions, Freezes[T, T, Item[T]], Generic[T]):
+class FrozenElementSet(ElementOptions[T, T, Item[T]], Freezes[T, T, Item[T]]):
     """An `ElementSet` that never changes, so it is hashable."""
 
     __slots__ = ()

@@ -143,8 +143,9 @@ PyObject *int_equal_to(PyObject *object);
 PyObject *int_of(wide number);
 PyObject *int_of_count(count number);
 
-/* Reads an int from 0 to 2^128 - 1. Greater ones give 2^128 - 1. Raises ValueError for an int below 0. */
-bool wide_of(PyObject *number, wide *out);
+/* Reads an int, and whether it is greater than 2^128 - 1. Raises ValueError for an int below 0, and returns false if an exception
+   is set. */
+bool wide_of(PyObject *number, wide *out, bool *is_beyond);
 
 /* Returns the value of a rank, or NULL. Runs Python code. */
 PyObject *value_of(element *of, wide rank);

@@ -90,7 +90,7 @@ static fit rank_of_int(const element *of, PyObject *number, wide *rank) {
     return found;
 }
 
-bool wide_of(PyObject *number, wide *out) {
+bool wide_of(PyObject *number, wide *out, bool *is_beyond) {
     PyObject *whole = PyNumber_Index(number);
     int overflow;
     long long small = whole ? PyLong_AsLongLongAndOverflow(whole, &overflow) : -1;
@@ -106,9 +106,9 @@ bool wide_of(PyObject *number, wide *out) {
         *out = (wide)small;
     } else {
         found = halves_of(whole, false, false, out);
-        *out = found == FITS ? *out : ~(wide)0;
     }
     Py_DECREF(whole);
+    *is_beyond = found == ABOVE;
     return found != FAILED;
 }
 

@@ -150,10 +150,11 @@ static PyObject *set_rank(PyObject *self, PyObject *value) {
 static PyObject *set_nth(PyObject *self, PyObject *place) {
     set *it = (set *)self;
     wide n, value;
-    if (!wide_of(place, &n)) {
+    bool is_beyond;
+    if (!wide_of(place, &n, &is_beyond)) {
         return NULL;
     }
-    if (!it->of->calls->nth(&it->handle, n, &value)) {
+    if (is_beyond || !it->of->calls->nth(&it->handle, n, &value)) {
         PyErr_SetString(PyExc_IndexError, "the set has no member at this place");
         return NULL;
     }
@@ -277,27 +278,36 @@ FROM(set_prev_run, prev_run, it->of->top)
 FROM(set_next_gap, next_gap, 0)
 FROM(set_prev_gap, prev_gap, it->of->top)
 
+/* Reads the length of a gap less one. */
+static bool read_length(PyObject *length, wide *most, bool *is_beyond) {
+    PyObject *one = PyLong_FromLong(1), *less = one ? PyNumber_Subtract(length, one) : NULL;
+    bool is_done = less && wide_of(less, most, is_beyond);
+    Py_XDECREF(one);
+    Py_XDECREF(less);
+    if (!is_done && PyErr_ExceptionMatches(PyExc_ValueError)) {
+        PyErr_SetString(PyExc_ValueError, "the length of a gap is at least 1");
+    }
+    return is_done;
+}
+
 /* The first gap of at least `length` values. The library's gap may go on beyond the greatest rank of the element, but then it
    is the last gap, and no other is long enough. */
 static PyObject *set_first_gap(PyObject *self, PyObject *arguments, PyObject *names) {
     static char *parameters[] = {"length", "start", NULL};
     set *it = (set *)self;
     PyObject *length = NULL, *start = NULL;
-    wide wanted = 1, from = 0;
+    wide most = 0, from = 0;
     span gap = {0, 0};
+    bool is_beyond = false;
     if (!PyArg_ParseTupleAndKeywords(arguments, names, "|OO:first_gap", parameters, &length, &start)
-        || (length && !wide_of(length, &wanted)) || (start && !rank_in(it->of, start, &from))) {
-        return NULL;
-    }
-    if (wanted < 1) {
-        PyErr_SetString(PyExc_ValueError, "the length of a gap is at least 1");
+        || (length && !read_length(length, &most, &is_beyond)) || (start && !rank_in(it->of, start, &from))) {
         return NULL;
     }
     /* The library's lengths have at most 64 bits, or 128. Its longest gap has one value more. */
     wide longest = it->of->calls->bits == 128 ? ~(wide)0 : UINT64_MAX;
-    bool found = it->of->calls->first_gap(&it->handle, from, wanted < longest ? wanted : longest, &gap);
+    bool found = !is_beyond && it->of->calls->first_gap(&it->handle, from, most < longest ? most + 1 : longest, &gap);
     gap.last = gap.last < it->of->top ? gap.last : it->of->top;
-    found = found && gap.first <= gap.last && gap.last - gap.first >= wanted - 1;
+    found = found && gap.first <= gap.last && gap.last - gap.first >= most;
     return none_or_run(it, found, gap);
 }
 
@@ -321,10 +331,11 @@ static PyObject *set_next_ranks(PyObject *self, PyObject *from) {
     set *it = (set *)self;
     wide rank;
     span run;
-    if (!wide_of(from, &rank)) {
+    bool is_beyond;
+    if (!wide_of(from, &rank, &is_beyond)) {
         return NULL;
     }
-    if (rank > it->of->top || !it->of->calls->next_run(&it->handle, rank, &run)) {
+    if (is_beyond || rank > it->of->top || !it->of->calls->next_run(&it->handle, rank, &run)) {
         Py_RETURN_NONE;
     }
     return Py_BuildValue("(NN)", int_of(run.first), int_of(run.last));

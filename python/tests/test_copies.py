@@ -1,11 +1,16 @@
 """Copies, pickles and text of sets."""
 
 import copy
+import datetime
+import ipaddress
 import pickle
+import struct
 import unittest
 
+import kinds
 import range_set
-from range_set import FrozenRangeSet, RangeSet, Run
+from kinds import KINDS
+from range_set import DateSet, FrozenRangeSet, RangeSet, Run
 
 
 class Named(RangeSet):
@@ -17,11 +22,12 @@ class Named(RangeSet):
 
 
 def samples():
-    """Returns sets of both kinds and both widths."""
-    for kind in (RangeSet, FrozenRangeSet):
-        for bits in (32, 64):
-            for values in ((), [1], [range(1, 6), range(10, 21)], [Run(0, 2**bits - 1)], [0, 2**bits - 1]):
-                yield kind(values, bits=bits)
+    """Yields sets of each type, with the options of their constructor."""
+    for kind in KINDS:
+        low, top = kind.least, kind.greatest
+        for of in kind.types:
+            for numbers in ((), [low + 1], [(low, low + 5), (low + 10, low + 20)], [(low, top)], [low, top]):
+                yield kind.made(numbers, of), kind.options
 
 
 class Copies(unittest.TestCase):
@@ -29,10 +35,10 @@ class Copies(unittest.TestCase):
         ways = [copy.copy, copy.deepcopy, lambda it: it.copy(), lambda it: type(it)(it)]
         for protocol in range(pickle.HIGHEST_PROTOCOL + 1):
             ways.append(lambda it, protocol=protocol: pickle.loads(pickle.dumps(it, protocol)))
-        for made in samples():
+        for made, _ in samples():
             for way in ways:
                 other = way(made)
-                self.assertEqual((other, type(other), other.bits), (made, type(made), made.bits))
+                self.assertEqual((other, type(other), other.element), (made, type(made), made.element))
 
     def test_a_copy_is_another_set(self):
         for way in (copy.copy, copy.deepcopy, RangeSet.copy, RangeSet):
@@ -75,28 +81,45 @@ class Copies(unittest.TestCase):
     def test_a_pickle_names_the_package(self):
         self.assertNotIn(b"range_set.", pickle.dumps(RangeSet([1])))
 
-    def test_handles_are_not_copied(self):
-        handle = RangeSet([1])._handle
+    def test_walks_are_not_copied(self):
         for way in (copy.copy, copy.deepcopy, pickle.dumps):
-            self.assertRaises(TypeError, way, handle)
+            self.assertRaises(TypeError, way, iter(RangeSet([1]).runs()))
+
+    def test_pickles_of_version_0_1(self):
+        """Those sets had ints from 0 to 2**bits - 1."""
+        old = {
+            b"c__builtin__\ngetattr\n(crange_set\nRangeSet\nV_restored\ntR(I64\nc_codecs\nencode\n(V%s\nVlatin1\ntRtR.": RangeSet,
+            b"c__builtin__\ngetattr\n(crange_set\nFrozenRangeSet\nV_restored\ntR(I64\nc_codecs\nencode\n(V%s\nVlatin1\ntRtR.": FrozenRangeSet,
+        }
+        for form, kind in old.items():
+            ends = "".join("\\u%04x" % byte for byte in struct.pack("<4Q", 1, 5, 2**64 - 2, 2**64 - 1)).encode()
+            made = pickle.loads(form % ends)
+            self.assertEqual((made, type(made), made.bits, made.signed), ([(1, 5), (2**64 - 2, 2**64 - 1)], kind, 64, False))
+
+    def test_bytes_that_are_no_set(self):
+        for data in (b"1", bytes(8), struct.pack("<2Q", 5, 1)):
+            self.assertRaises(ValueError, RangeSet._unpickled, {}, data)
+        self.assertRaises(ValueError, DateSet._unpickled, {}, struct.pack("<2I", 0, 2**32 - 1))
 
 
 class Text(unittest.TestCase):
     def test_repr_makes_the_set_again(self):
-        names = {name: getattr(range_set, name) for name in range_set.__all__}
-        for made in samples():
-            other = eval(repr(made), names)
-            self.assertEqual((other, type(other), other.bits), (made, type(made), made.bits))
+        names = {**vars(range_set), **vars(ipaddress), "datetime": datetime, **vars(kinds)}
+        for made, options in samples():
+            other = eval(repr(made).replace(repr(kinds.STEPS), "STEPS"), names)
+            self.assertEqual((other, type(other), other.element), (made, type(made), made.element))
 
     def test_reprs(self):
         self.assertEqual(repr(RangeSet()), "RangeSet()")
         self.assertEqual(repr(FrozenRangeSet(bits=32)), "FrozenRangeSet(bits=32)")
+        self.assertEqual(repr(RangeSet([-1], bits=128, signed=True)), "RangeSet([range(-1, 0)], bits=128)")
+        self.assertEqual(repr(RangeSet([1], signed=False)), "RangeSet([range(1, 2)], signed=False)")
         self.assertEqual(repr(RangeSet([5, range(1, 4)], bits=32)), "RangeSet([range(1, 4), range(5, 6)], bits=32)")
 
     def test_text_and_back(self):
         self.assertEqual(str(RangeSet([range(1, 6), range(10, 21)])), "1..=5, 10..=20")
-        for made in samples():
-            self.assertEqual(type(made).parse(str(made), bits=made.bits), made)
+        for made, options in samples():
+            self.assertEqual(type(made).parse(str(made), **options), made)
 
     def test_other_spellings(self):
         for text, plain in (
