@@ -1,20 +1,24 @@
 #!/usr/bin/env python3
-"""Times range sets beside a sorted list of ranges in plain Python, and prints one table.
+"""Times range sets beside Python's own sets and beside a sorted list of ranges in plain Python, in three tables.
 
     python3 python/bench.py [NUMBER]        NUMBER: how many ranges each set gets, otherwise 100,000
 
-Each time is the least of three, in milliseconds of processor time. A ratio below 1 means that range
-sets are faster. Both sides get the same values, and must give the same results.
+The first table has single calls, in microseconds for each. The second has many values at once, by arrays
+and lists. The third has calls beside a list of ranges; there, a ratio below 1 means that range sets are
+faster. Each time is the least of several, of processor time. Both sides get the same values, and must give
+the same results.
 """
 
 import random
 import sys
+from array import array
 from bisect import bisect_left, bisect_right
 from time import process_time
 
 from range_set import RangeSet
 
-TRIALS = 3
+TRIALS = 5
+MANY = 1_000_000
 SPREAD = 10_000  # how many values there are for each range
 LONGEST = 2_000
 
@@ -112,9 +116,64 @@ def rows(number):
     yield "walk over the runs", [lambda it=it: sum(1 for _ in it.runs()) for it in lefts]
 
 
+def each_in(made, values):
+    for value in values:
+        value in made
+
+
+def each_added(made, values):
+    for value in values:
+        made.add(value)
+
+
+def walked(values):
+    for _ in values:
+        pass
+
+
+def single_calls():
+    """Yields the name of a call, and what makes a number of them: on a range set, and on a set or None."""
+    source = random.Random(1)
+    runs = [(10 * at, 10 * at + 5) for at in range(1000)]
+    made, plain = RangeSet(runs), {value for first, last in runs for value in range(first, last + 1)}
+    values = [source.randrange(10_000) for _ in range(100_000)]
+    members, known = list(made), [source.choice(sorted(plain)) for _ in values]
+    yield "v in s", len(values), lambda: each_in(made, values), lambda: each_in(plain, values)
+    yield "s.add(v), of a member", len(values), lambda: each_added(made, known), lambda: each_added(plain, known)
+    fresh = list(range(0, 200_000, 2))
+    yield "s.add(v), of a new value", len(fresh), lambda: each_added(RangeSet(), fresh), lambda: each_added(set(), fresh)
+    yield "a step over values", 100 * len(members), lambda: [walked(made) for _ in range(100)], lambda: [walked(plain) for _ in range(100)]
+    yield "a step over runs", 100 * len(runs), lambda: [walked(made.runs()) for _ in range(100)], None
+    yield "the loop itself", len(values), lambda: walked(values), None
+
+
+def many_values():
+    """Yields the name of a task on many values, and the task on range sets and on sets, or None."""
+    source = random.Random(1)
+    values = [source.randrange(2**40) for _ in range(MANY)]
+    numbers, ordered = array("q", values), array("q", sorted(values))
+    made, plain = RangeSet(numbers), set(values)
+    yield "a set of an array", lambda: RangeSet(numbers), lambda: set(numbers)
+    yield "a set of an array in order", lambda: RangeSet(ordered), None
+    yield "a set of a list", lambda: RangeSet(values), lambda: set(values)
+    yield "runs_array()", made.runs_array, None
+    yield "to_array()", made.to_array, lambda: sorted(plain)
+    yield "contains_array() of an array", lambda: made.contains_array(numbers), lambda: [value in plain for value in values]
+    yield "list(s.runs())", lambda: list(made.runs()), None
+    yield "s.copy()", made.copy, plain.copy
+
+
 def main(words):
     number = int(words[0]) if words else 100_000
-    print(f"{'':42}{'range set':>12}{'list':>12}{'ratio':>8}")
+    print(f"{'':42}{'range set':>12}{'set':>12}")
+    for name, calls, ours, theirs in single_calls():
+        times = [least_time(call)[0] * 1000 / calls if call else None for call in (ours, theirs)]
+        print(f"{name:42}" + "".join(f"{time:>9.3f} us" if time is not None else " " * 12 for time in times))
+    print(f"\n{MANY:,} random values:")
+    for name, ours, theirs in many_values():
+        times = [least_time(call)[0] if call else None for call in (ours, theirs)]
+        print(f"{name:42}" + "".join(f"{time:>9.0f} ms" if time is not None else " " * 12 for time in times))
+    print(f"\n{'':42}{'range set':>12}{'list':>12}{'ratio':>8}")
     for name, (ours, theirs) in rows(number):
         (our_time, our_result), (their_time, their_result) = least_time(ours), least_time(theirs)
         if plain(our_result) != plain(their_result):

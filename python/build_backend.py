@@ -103,14 +103,14 @@ def compiled(folder):
         fail(NO_HEADER.format(python))
     module = Path(folder, MODULE)
     sources = sorted(str(file) for file in HERE.glob("src/*.c"))
-    words = [*cc, *FLAGS, "-isystem", python, "-I", str(header_folder(library)), *sources, str(library), "-o", str(module)]
+    words = [*cc, *FLAGS, *os.environ.get("CFLAGS", "").split(), "-isystem", python, "-I", str(header_folder(library)), *sources, str(library), "-o", str(module)]
     ran = subprocess.run(words, stdout=subprocess.PIPE, stderr=subprocess.STDOUT, text=True)
     if ran.returncode:
         fail(f"range_set: the extension module does not compile, so nothing is installed:\n{ran.stdout[:2000]}")
     script = f"import sys; sys.path.insert(0, {str(folder)!r}); import _core; print(_core.version)"
     ran = subprocess.run([sys.executable, "-c", script], stdout=subprocess.PIPE, stderr=subprocess.STDOUT, text=True)
     if ran.stdout != f"{VERSION}\n":
-        fail(f"range_set: the extension module does not load, so nothing is installed. {library} may be of another version:\n{ran.stdout}")
+        fail(f"range_set: the extension module does not load, so nothing is installed. {library} may be of another version:\n{ran.stdout.strip().splitlines()[-1]}\n")
     return module
 
 

@@ -50,7 +50,7 @@ class Wheels(unittest.TestCase):
         """Returns the status of a build, what it says, and the files that it leaves."""
         here, folder = str(self.top / "python"), str(self.top / "wheels")
         script = SCRIPT.format(here=here, call=call, built=str(built), folder=folder, change=change)
-        environment = {**os.environ, "RANGE_SET_LIBRARY": str(library), "PYTHONDONTWRITEBYTECODE": "1", **variables}
+        environment = {**os.environ, "RANGE_SET_LIBRARY": str(library), "PYTHONDONTWRITEBYTECODE": "1", "CFLAGS": "-O0", **variables}
         ran = subprocess.run([sys.executable, "-c", script], capture_output=True, text=True, env=environment)
         return ran.returncode, ran.stdout + ran.stderr, self.files() - self.before
 
