@@ -13,6 +13,7 @@ from typing import (
     Iterable,
     Iterator,
     List,
+    Optional,
     SupportsIndex,
     Tuple,
     Type,
@@ -162,6 +163,14 @@ class Reads(Base[T, V, I]):
             [Run(first=-9223372036854775808, last=-1)]
         """
         return Gaps(self)
+
+    def first_run(self) -> Optional[Run[T]]:
+        """Returns the run with the least members, or None if the set is empty."""
+        return self.next_run()
+
+    def last_run(self) -> Optional[Run[T]]:
+        """Returns the run with the greatest members, or None if the set is empty."""
+        return self.prev_run()
 
     def runs_in(self: Self, first: V, last: V) -> Runs[T]:
         """Returns a view of the runs of the members from first to last, both included.

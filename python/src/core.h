@@ -71,6 +71,7 @@ typedef struct calls {
     bool (*run_before)(const handle *set, wide value, span *run);
     size_t (*runs_in)(const handle *set, wide first, wide last, span runs[BLOCK]);
     bool (*first_gap)(const handle *set, wide from, wide length, span *gap);
+    bool (*first_run_of)(const handle *set, wide from, wide length, span *run);
     uint32_t (*combine[4])(handle *out, const handle *left, const handle *right);
     uint32_t (*change[4])(handle *set, const handle *other);
     uint32_t (*complement)(handle *out, const handle *set);

@@ -104,6 +104,12 @@ PyObject *set_of_ranks(PyObject *self, PyObject *data);
 #define GAP_BEFORE_DOC                                                                                                         \
     "gap_before($self, value, /)\n--\n\nReturns the last gap that ends before a value, or None.\n\n"                           \
     ">>> RangeSet([range(5), 9]).gap_before(9)\nRun(first=5, last=8)"
+#define FIRST_RUN_OF_DOC                                                                                                       \
+    "first_run_of($self, /, length=1, start=least)\n--\n\n"                                                                    \
+    "Returns the first run with at least `length` members at or after `start`, or None.\n\n"                                  \
+    "If that run starts before `start`, returns only its part at or after `start`. In the set of what is\n"                    \
+    "free, this finds room.\n\n"                                                                                              \
+    ">>> RangeSet([range(5), 7, range(20, 30)]).first_run_of(3, 3)\nRun(first=20, last=29)"
 #define FIRST_GAP_DOC                                                                                                          \
     "first_gap($self, /, length=1, start=least)\n--\n\n"                                                                       \
     "Returns the first gap with at least `length` values at or after `start`, or None.\n\n"                                    \

@@ -278,37 +278,47 @@ FROM(set_prev_run, prev_run, it->of->top)
 FROM(set_next_gap, next_gap, 0)
 FROM(set_prev_gap, prev_gap, it->of->top)
 
-/* Reads the length of a gap less one. */
+/* Reads a length less one. */
 static bool read_length(PyObject *length, wide *most, bool *is_beyond) {
     PyObject *one = PyLong_FromLong(1), *less = one ? PyNumber_Subtract(length, one) : NULL;
     bool is_done = less && wide_of(less, most, is_beyond);
     Py_XDECREF(one);
     Py_XDECREF(less);
     if (!is_done && PyErr_ExceptionMatches(PyExc_ValueError)) {
-        PyErr_SetString(PyExc_ValueError, "the length of a gap is at least 1");
+        PyErr_SetString(PyExc_ValueError, "the length of a run or a gap is at least 1");
     }
     return is_done;
 }
 
-/* The first gap of at least `length` values. The library's gap may go on beyond the greatest rank of the element, but then it
-   is the last gap, and no other is long enough. */
-static PyObject *set_first_gap(PyObject *self, PyObject *arguments, PyObject *names) {
+/* Finds the first run or gap of at least a length. The library's last gap may go on beyond the greatest rank of the element, but
+   no other comes after it. */
+static PyObject *first_of_length(PyObject *self, PyObject *arguments, PyObject *names, bool is_gap) {
     static char *parameters[] = {"length", "start", NULL};
     set *it = (set *)self;
+    const calls *by = it->of->calls;
     PyObject *length = NULL, *start = NULL;
     wide most = 0, from = 0;
-    span gap = {0, 0};
+    span run = {0, 0};
     bool is_beyond = false;
-    if (!PyArg_ParseTupleAndKeywords(arguments, names, "|OO:first_gap", parameters, &length, &start)
+    if (!PyArg_ParseTupleAndKeywords(arguments, names, "|OO", parameters, &length, &start)
         || (length && !read_length(length, &most, &is_beyond)) || (start && !rank_in(it->of, start, &from))) {
         return NULL;
     }
-    /* The library's lengths have at most 64 bits, or 128. Its longest gap has one value more. */
-    wide longest = it->of->calls->bits == 128 ? ~(wide)0 : UINT64_MAX;
-    bool found = !is_beyond && it->of->calls->first_gap(&it->handle, from, most < longest ? most + 1 : longest, &gap);
-    gap.last = gap.last < it->of->top ? gap.last : it->of->top;
-    found = found && gap.first <= gap.last && gap.last - gap.first >= most;
-    return none_or_run(it, found, gap);
+    /* The library's lengths have at most 64 bits, or 128. The longest run has one value more. */
+    wide longest = by->bits == 128 ? ~(wide)0 : UINT64_MAX;
+    bool found = !is_beyond
+                 && (is_gap ? by->first_gap : by->first_run_of)(&it->handle, from, most < longest ? most + 1 : longest, &run);
+    run.last = run.last < it->of->top ? run.last : it->of->top;
+    found = found && run.first <= run.last && run.last - run.first >= most;
+    return none_or_run(it, found, run);
+}
+
+static PyObject *set_first_gap(PyObject *self, PyObject *arguments, PyObject *names) {
+    return first_of_length(self, arguments, names, true);
+}
+
+static PyObject *set_first_run_of(PyObject *self, PyObject *arguments, PyObject *names) {
+    return first_of_length(self, arguments, names, false);
 }
 
 /* ---- Walks. */
@@ -392,6 +402,7 @@ static PyMethodDef methods[] = {
     {"gap_after", set_gap_after, METH_O, GAP_AFTER_DOC},
     {"gap_before", set_gap_before, METH_O, GAP_BEFORE_DOC},
     {"first_gap", (PyCFunction)(void (*)(void))set_first_gap, METH_VARARGS | METH_KEYWORDS, FIRST_GAP_DOC},
+    {"first_run_of", (PyCFunction)(void (*)(void))set_first_run_of, METH_VARARGS | METH_KEYWORDS, FIRST_RUN_OF_DOC},
     ALGEBRA_METHODS,
     ARRAY_METHODS,
     SUBSCRIPT,

@@ -99,14 +99,19 @@ static size_t OWN(runs_in)(const handle *set, wide first, wide last, span out[BL
     return stored;
 }
 
-static bool OWN(first_gap)(const handle *set, wide from, wide length, span *out) {
-    OWN(run) gap;
-    if (!RSB(first_gap)(SET(set), NARROW(from), PLACE(length), &gap)) {
-        return false;
+/* A call that looks for a length. */
+#define FINDS(name)                                                                                                            \
+    static bool OWN(name)(const handle *set, wide from, wide length, span *out) {                                              \
+        OWN(run) block;                                                                                                        \
+        if (!RSB(name)(SET(set), NARROW(from), PLACE(length), &block)) {                                                       \
+            return false;                                                                                                      \
+        }                                                                                                                      \
+        *out = OWN(span)(block);                                                                                               \
+        return true;                                                                                                           \
     }
-    *out = OWN(span)(gap);
-    return true;
-}
+FINDS(first_gap)
+FINDS(first_run_of)
+#undef FINDS
 
 #define COMBINES(name)                                                                                                         \
     static uint32_t OWN(name)(handle *out, const handle *left, const handle *right) {                                          \
@@ -182,6 +187,7 @@ static const calls OWN(calls) = {
     .run_before = OWN(run_before),
     .runs_in = OWN(runs_in),
     .first_gap = OWN(first_gap),
+    .first_run_of = OWN(first_run_of),
     .combine = {OWN(union), OWN(intersection), OWN(difference), OWN(symmetric_difference)},
     .change = {OWN(union_with), OWN(intersect_with), OWN(subtract), OWN(xor_with)},
     .complement = OWN(complement),

@@ -138,11 +138,14 @@ class Ints(unittest.TestCase):
     def test_lengths(self):
         for length in (0, -1, -(2**200)):
             self.assertRaisesRegex(ValueError, "at least 1", RangeSet().first_gap, length)
+            self.assertRaisesRegex(ValueError, "at least 1", RangeSet().first_run_of, length)
         self.assertRaises(TypeError, RangeSet().first_gap, 1.0)
-        for kind in INTS:
-            size = kind.greatest - kind.least + 1
-            self.assertEqual(kind.made().first_gap(size), Run(kind.least, kind.greatest))
-            self.assertEqual([kind.made().first_gap(length) for length in (size + 1, 2**128 + 1, 2**200)], [None] * 3)
+        for kind in KINDS:
+            size, whole = kind.greatest - kind.least + 1, kind.made([(kind.least, kind.greatest)])
+            for call in (kind.made().first_gap, whole.first_run_of):
+                self.assertEqual(call(size), Run(kind.value(kind.least), kind.value(kind.greatest)))
+                self.assertEqual([call(length) for length in (size + 1, 2**128 + 1, 2**200)], [None] * 3)
+                self.assertEqual(call(size, kind.value(kind.least + 1)), None)
         self.assertRaises(IndexError, lambda: (~RangeSet(bits=128))[2**128])
 
     def test_an_update_that_fails_changes_nothing(self):

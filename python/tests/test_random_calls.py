@@ -205,10 +205,12 @@ class Trial:
             self.same(getattr(self.made, f"prev_{name}")(self.value_of(number)), self.first_of(found + before))
             self.same(getattr(self.made, f"next_{name}")(), self.first_of(spans))
             self.same(getattr(self.made, f"prev_{name}")(), self.first_of(spans[::-1]))
+        self.same((self.made.first_run(), self.made.last_run()), (self.first_of(runs), self.first_of(runs[::-1])))
         length = self.random.randrange(1, SIZE)
-        parts = [(max(first, number), last) for first, last in gaps if last >= number]
-        wanted = [it for it in parts if it[1] - it[0] + 1 >= length]
-        self.same(self.made.first_gap(length, self.value_of(number)), self.first_of(wanted))
+        for call, spans in ((self.made.first_gap, gaps), (self.made.first_run_of, runs)):
+            parts = [(max(first, number), last) for first, last in spans if last >= number]
+            wanted = [it for it in parts if it[1] - it[0] + 1 >= length]
+            self.same(call(length, self.value_of(number)), self.first_of(wanted))
 
     def first_of(self, spans):
         return self.run(*spans[0]) if spans else None
