@@ -43,9 +43,10 @@ PyObject *set_filled(PyObject *self, PyObject *arguments) {
         return NULL;
     }
     PyObject *walk = PyObject_GetIter(items);
-    runs waiting = {it->of->calls, NULL, 0, 0, {0, 0}, false};
-    while (walk && is_done && (item = PyIter_Next(walk))) {
+    runs waiting = {.calls = it->of->calls};
+    for (size_t at = 1; walk && is_done && (item = PyIter_Next(walk)); at++) {
         is_done = add_item(it, item, is_adding, are_values, &waiting, &has_others);
+        is_done = is_done && (at % 65536 || PyErr_CheckSignals() == 0);
         Py_DECREF(item);
     }
     Py_XDECREF(walk);
@@ -128,7 +129,7 @@ PyObject *set_filled_by(PyObject *self, PyObject *arguments) {
         || !is_array(it, data, &from)) {
         return NULL;
     }
-    runs waiting = {it->of->calls, NULL, 0, 0, {0, 0}, false};
+    runs waiting = {.calls = it->of->calls};
     int step = are_ends ? 2 : 1;
     for (Py_ssize_t at = 0; is_done && at + step <= from.number; at += step) {
         is_done = add_numbers(it, &from, at, at + step - 1, is_adding, &waiting, &has_others);
@@ -208,7 +209,7 @@ PyObject *set_values_bytes(PyObject *self, PyObject *Py_UNUSED(nothing)) {
 PyObject *set_of_ranks(PyObject *self, PyObject *data) {
     set *it = (set *)self;
     size_t size = (size_t)it->of->calls->bits / 8;
-    runs waiting = {it->of->calls, NULL, 0, 0, {0, 0}, false};
+    runs waiting = {.calls = it->of->calls};
     bool is_done = PyBytes_Check(data) && (size_t)PyBytes_Size(data) % (2 * size) == 0, has_others;
     size_t length = is_done ? (size_t)PyBytes_Size(data) : 0;
     for (size_t at = 0; is_done && at < length; at += 2 * size) {

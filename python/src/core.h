@@ -188,8 +188,9 @@ typedef struct runs {
     char *data;
     size_t number;
     size_t room;
-    span last; /* not yet in data, unless number is 0 and it is empty */
+    span last; /* not yet in data, if has_last */
     bool has_last;
+    bool is_mixed; /* whether a run came before one with a lesser first value */
 } runs;
 
 /* Adds a run at the end, or makes the last one longer if they touch. Raises MemoryError and returns false if it fails. */

@@ -162,14 +162,53 @@ bool runs_add(runs *to, span run) {
         if (!store(to)) {
             return false;
         }
+        to->is_mixed = to->is_mixed || run.first < to->last.first;
     }
     to->last = run;
     to->has_last = true;
     return true;
 }
 
+/* Sorts runs by a byte of their first values, from one array to another. Returns false, and moves nothing, if that byte is the
+   same in all of them. */
+static bool sort_by(size_t byte, const char *from, char *to, size_t number, size_t size) {
+    size_t places[257] = {0};
+    for (size_t at = 0; at < number; at++) {
+        places[(unsigned char)from[at * size + byte] + 1]++;
+    }
+    if (places[(unsigned char)from[byte] + 1] == number) {
+        return false;
+    }
+    for (size_t digit = 1; digit < 256; digit++) {
+        places[digit] += places[digit - 1];
+    }
+    for (size_t at = 0; at < number; at++) {
+        const char *run = from + at * size;
+        memcpy(to + places[(unsigned char)run[byte]]++ * size, run, size);
+    }
+    return true;
+}
+
+/* Sorts runs by their first values, which the library then adds faster. Leaves them as they are if there is no memory for it. A
+   run begins with its first value, which begins with its lowest byte. */
+static void sort(runs *it) {
+    size_t size = it->calls->run_size;
+    char *other = PyMem_Malloc(it->number * size);
+    for (size_t byte = 0; other && byte < size / 2; byte++) {
+        if (sort_by(byte, it->data, other, it->number, size)) {
+            char *sorted = other;
+            other = it->data;
+            it->data = sorted;
+        }
+    }
+    PyMem_Free(other);
+}
+
 bool runs_end(runs *from, set *to) {
     bool is_done = !from->has_last || store(from);
+    if (is_done && from->is_mixed) {
+        sort(from);
+    }
     if (is_done && from->number) {
         is_done = succeeded(from->calls->from_runs(&to->handle, from->data, from->number));
     }

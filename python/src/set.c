@@ -62,6 +62,11 @@ static PyObject *set_begin(PyObject *self, PyObject *of) {
         PyErr_SetString(PyExc_TypeError, "the element of a set is an Element");
         return NULL;
     }
+    /* A user's function may run in a call on the set, which still uses its element. Only the usual one is never freed. */
+    if (it->of != (element *)of && (it->of != usual || it->changes)) {
+        PyErr_SetString(PyExc_TypeError, "a set keeps the type of its values: make another one");
+        return NULL;
+    }
     element *before = it->of;
     before->calls->free(&it->handle);
     Py_INCREF(of);

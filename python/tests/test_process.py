@@ -1,5 +1,6 @@
 """What depends on the process: allocations that fail, threads, forks, and sets that are alive at the exit."""
 
+import gc
 import os
 import resource
 import shutil
@@ -8,6 +9,7 @@ import sys
 import tempfile
 import threading
 import unittest
+import weakref
 from pathlib import Path
 
 import range_set
@@ -170,6 +172,23 @@ class Allocations(unittest.TestCase):
         grown = resource.getrusage(resource.RUSAGE_SELF).ru_maxrss - before
         self.assertLess(grown, 20_000)
 
+    def test_subclasses_and_weak_references(self):
+        class Named(RangeSet):
+            pass
+
+        before = sys.getrefcount(Named)
+        for _ in range(100):
+            made = Named([1])
+            made.name, made.itself = "cycle", made
+            made |= {2}
+            gone = weakref.ref(made | [3])
+            self.assertIsNone(gone())
+        seen = weakref.ref(made)
+        del made
+        gc.collect()
+        self.assertIsNone(seen())
+        self.assertLess(sys.getrefcount(Named) - before, 5)
+
     def test_references(self):
         """No call keeps or drops a reference too many to a value, a class or an element."""
         for kind in KINDS:
@@ -268,9 +287,17 @@ class Exits(unittest.TestCase):
     def test_a_constructor_that_is_called_again(self):
         made = RangeSet([1, 2])
         walk = iter(made)
-        made.__init__([5], bits=128)
-        self.assertEqual((made, made.bits), ({5}, 128))
+        made.__init__([5])
+        self.assertEqual(made, {5})
         self.assertRaises(RuntimeError, next, walk)
+        self.assertRaisesRegex(TypeError, "keeps the type", made.__init__, [6], bits=128)
+        self.assertEqual(made, {5})
+
+    def test_an_interrupt_ends_a_long_constructor(self):
+        script = "import itertools, signal; from range_set import RangeSet\n"
+        script += "signal.signal(signal.SIGALRM, signal.default_int_handler)\nsignal.setitimer(signal.ITIMER_REAL, 0.2)\n"
+        script += "try: RangeSet(itertools.repeat(5))\nexcept KeyboardInterrupt: print('interrupted')"
+        self.assertEqual(run_python(script), (0, "interrupted\n"))
 
 
 class Threads(unittest.TestCase):
