@@ -3,7 +3,8 @@
 The wheel holds the package and its extension module, which is compiled from src/ and has the C library
 inside. The environment variable RANGE_SET_LIBRARY names the static library librange_set.a, or the folder
 that tools/c/build wrote. Otherwise it is the one that tools/c/build wrote to out, or the compiler's own.
-The module keeps to the limited API of Python 3.8, so one wheel serves that version and later ones.
+The module keeps to the limited API of Python 3.8, so one wheel serves that version and later ones
+(docs/DECISIONS.md, one-python-wheel).
 
 An editable installation puts the module beside the package in this folder. If a build fails, it leaves
 nothing behind.

@@ -13,6 +13,7 @@ it checks each argument, owns the memory, and makes the calls.
     '9..=9, 15..=18'
 """
 
+from . import _core
 from ._core import Run
 from ._elements import Element
 from ._sets import (
@@ -43,6 +44,9 @@ __all__ = [
     "Run",
 ]
 __version__ = "0.1.0"
+
+if _core.version != __version__:
+    raise ImportError(f"the extension module is of version {_core.version}, and the package of {__version__}: install it again")
 
 # Messages and pickles name this package, and no module inside of it.
 for _name in __all__:

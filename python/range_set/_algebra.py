@@ -18,7 +18,10 @@ OPERANDS = abc.Set, list, tuple, range, Run
 
 
 def is_operand(other: object) -> bool:
-    """Returns whether an operator takes an object: sets, lists, tuples and runs, and arrays."""
+    """Returns whether an operator takes an object: sets, lists, tuples and runs, and arrays.
+
+    See docs/DECISIONS.md, equal-to-lists.
+    """
     return isinstance(other, OPERANDS) or is_array(other)
 
 

@@ -44,7 +44,10 @@ else:
 
 
 def checked_pair(values: Tuple[Any, ...]) -> List[Any]:
-    """Returns a list of the run that a tuple is. The empty tuple is none. Others raise TypeError."""
+    """Returns a list of the run that a tuple is. The empty tuple is none. Others raise TypeError.
+
+    See docs/DECISIONS.md, tuple-is-a-run.
+    """
     if len(values) not in (0, 2):
         raise TypeError("a tuple is a run with two ends, such as (1, 5): write a list of values and runs")
     return [values] if values else []

@@ -1,6 +1,7 @@
 """Makes the references of the calls in C and C++, Python and Rust from their comments."""
 import ast
 import os
+import re
 import shutil
 import subprocess
 import sys
@@ -36,7 +37,16 @@ FILTER = (
     r"s|^\( *\)//\( .*\)*$|\1///\2|",
 )
 # Under which title the methods of a class are that users do not name.
-TITLES = {"Algebra": "Both kinds: operators and comparisons", "Reads": "Both kinds: reads"}
+TITLES = {
+    "Algebra": "All sets: operators and comparisons",
+    "Reads": "All sets: places, runs, arrays and copies",
+    "Changes": "Sets that change",
+    "Freezes": "Sets that never change",
+    "IntOptions": "Sets of ints: their options",
+    "AddressOptions": "Sets of addresses: their options",
+}
+HIDDEN = {"Addresses", "ElementOptions", "Ints", "Numbers"}
+LITERALS = re.compile(r'(?:"(?:[^"\\]|\\.)*"\s*)+')
 
 
 def called(words, **how):
@@ -92,12 +102,31 @@ def of_class(item):
             yield indented_code(told)
 
 
+def with_fences(text):
+    """Returns a docstring of C with its example as a block of code."""
+    words, mark, example = text.partition("\n\n>>>")
+    return indented_code(words) + (f"\n\n```python\n>>>{example}\n```" if mark else "")
+
+
+def of_extension(file):
+    """Yields the parts of a page about the public methods of a source file of the extension module."""
+    text = (ROOT / "python" / "src" / file).read_text().replace("\\\n", "\n")
+    for literals in LITERALS.findall(text):
+        head, mark, told = ast.literal_eval(f"({literals})").partition("\n--\n\n")
+        if mark and not head.startswith("_"):
+            yield f"### `{head.partition('(')[0]}`"
+            yield f"```python\n{head.replace('$self', 'self')}\n```"
+            yield with_fences(told)
+
+
 def python():
     """Returns the page about the Python package."""
     folder = ROOT / "python" / "range_set"
     parts = ["# Python", indented_code(ast.get_docstring(ast.parse((folder / "__init__.py").read_text())))]
-    for name in ("_sets.py", "_algebra.py", "_reads.py", "_values.py"):
+    for name in ("_sets.py", "_algebra.py", "_reads.py", "_elements.py"):
         for item in ast.parse((folder / name).read_text()).body:
-            if isinstance(item, ast.ClassDef) and is_public(item) and ast.get_docstring(item):
+            if isinstance(item, ast.ClassDef) and is_public(item) and item.name not in HIDDEN and ast.get_docstring(item):
                 parts += of_class(item)
+    parts += ["## All sets: look-ups", *of_extension("methods.h")]
+    parts += ["## Sets that change: single values and runs", *of_extension("algebra.c"), "## Runs", *of_extension("run.c")]
     return "\n\n".join(parts) + "\n"
