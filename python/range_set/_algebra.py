@@ -45,6 +45,10 @@ class Algebra(Reads[T, V, I]):
             advice = advice.replace("other", ", ".join(["other", *(f"{k}={v!r}" for k, v in self._options().items())]))
         raise ValueError(f"one set has {one!r}, and the other has {two!r}" + (f": {advice}" if advice else ""))
 
+    def _takes(self, other: object) -> bool:
+        """Returns whether an operator takes an object."""
+        return is_operand(other) or self.element.is_run(other)
+
     def _other(self: Self, values: Any, is_adding: bool, is_operand: bool = False) -> Any:
         """Returns a set of this type with some values, for set algebra."""
         if isinstance(values, Reads):
@@ -59,7 +63,7 @@ class Algebra(Reads[T, V, I]):
 
     def _combined(self: Self, how: int, other: object, is_adding: bool) -> Self:
         """Returns what an operator makes of this set and another."""
-        if not is_operand(other):
+        if not self._takes(other):
             return NotImplemented
         return self._combine(how, self._other(other, is_adding, True))
 
@@ -95,7 +99,7 @@ class Algebra(Reads[T, V, I]):
 
     def __rsub__(self: Self, other: Any) -> Self:
         """Returns the values that are in the other set and not in this one."""
-        if not is_operand(other):
+        if not self._takes(other):
             return NotImplemented
         made: Self = self._other(other, True, True)
         return made._combine(DIFFERENCE, self)
@@ -152,7 +156,7 @@ class Algebra(Reads[T, V, I]):
 
     def __eq__(self, other: object) -> bool:
         """Returns whether both sets have the same members."""
-        if not is_operand(other):
+        if not self._takes(other):
             return NotImplemented
         if isinstance(other, tuple):
             checked_pair(other)
@@ -164,27 +168,27 @@ class Algebra(Reads[T, V, I]):
 
     def __le__(self, other: Any) -> bool:
         """Returns whether this set is a subset of the other, as for Python's sets."""
-        if not is_operand(other):
+        if not self._takes(other):
             return NotImplemented
         return self._is_subset(self._compared(other, True)[0])
 
     def __lt__(self, other: Any) -> bool:
         """Returns whether this set is a subset of the other and is not equal to it."""
-        if not is_operand(other):
+        if not self._takes(other):
             return NotImplemented
         made, has_others = self._compared(other, True)
         return self._is_subset(made) and (has_others or not self._equal(made))
 
     def __ge__(self, other: Any) -> bool:
         """Returns whether this set is a superset of the other, as for Python's sets."""
-        if not is_operand(other):
+        if not self._takes(other):
             return NotImplemented
         made, has_others = self._compared(other, True)
         return not has_others and bool(made._is_subset(self))
 
     def __gt__(self, other: Any) -> bool:
         """Returns whether this set is a superset of the other and is not equal to it."""
-        if not is_operand(other):
+        if not self._takes(other):
             return NotImplemented
         made, has_others = self._compared(other, True)
         return not has_others and bool(made._is_subset(self)) and not self._equal(made)

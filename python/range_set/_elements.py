@@ -62,7 +62,7 @@ class Element(_core.Element[T]):
         made._arguments = rank, value, least, greatest
         made._options = {"ends": ends, "text": text, "read": read, "token": token}
         made.least, made.greatest, made.rank, made.value = least, greatest, rank, value
-        made._text, made._read, made._token = text, read, token
+        made._text, made._read, made._token, made._ends = text, read, token, ends
         return made
 
     _arguments: Tuple[Any, ...]
@@ -72,6 +72,11 @@ class Element(_core.Element[T]):
     _text: Callable[[T], str]
     _read: Optional[Callable[[str], Any]]
     _token: str
+    _ends: Any
+
+    def is_run(self, values: object) -> bool:
+        """Returns whether an object stands for a range of values, such as a network of addresses."""
+        return self._ends is not None and self._ends(values) is not None
 
     def __eq__(self, other: object) -> bool:
         """Returns whether both elements have the same functions and bounds."""
@@ -152,7 +157,7 @@ class Ints(Element[int]):
         made.bits, made.signed, made.least, made.greatest = bits, signed, first, last
         made.rank = made.value = int
         made._arguments, made._options = (bits, signed), {}
-        made._text, made._read, made._token = str, int, "[+-]?[0-9]+"
+        made._text, made._read, made._token, made._ends = str, int, "[+-]?[0-9]+", None
         return made
 
     def __repr__(self) -> str:

@@ -97,7 +97,7 @@ class Reads(Base[T, V, I]):
             return self._filled([(run.first, run.last) for run in values.runs()], is_adding, False)
         if isinstance(values, tuple):
             return self._filled(checked_pair(values), is_adding, False)
-        if isinstance(values, Run) or (isinstance(values, range) and values.step == 1):
+        if isinstance(values, Run) or (isinstance(values, range) and values.step == 1) or self.element.is_run(values):
             return self._filled([values], is_adding, False)
         if isinstance(values, str) and not isinstance(self.element.least, str):
             raise TypeError("parse() reads a set from text")

@@ -8,7 +8,7 @@ from operator import index
 from typing import TYPE_CHECKING, Any, Dict, Generic, Iterable, MutableSet, Optional, SupportsIndex, Tuple, Type, TypeVar, Union
 
 from . import _core
-from ._algebra import DIFFERENCE, INTERSECTION, SYMMETRIC_DIFFERENCE, UNION, Algebra, is_operand
+from ._algebra import DIFFERENCE, INTERSECTION, SYMMETRIC_DIFFERENCE, UNION, Algebra
 from ._core import Run
 from ._elements import CHARACTERS, DAYS, FAMILIES, Address, Element, Ints, ints
 from ._reads import I, Reads, T, V
@@ -86,7 +86,7 @@ class Changes(ChangingBase[T, V, I]):
         self._replace(SYMMETRIC_DIFFERENCE, others, True)
 
     def _operated(self: Self, how: int, other: object, is_adding: bool) -> Self:
-        if not is_operand(other):
+        if not self._takes(other):
             return NotImplemented
         self._change(how, self._other(other, is_adding, True))
         return self
@@ -393,10 +393,15 @@ class AddressOptions(Reads[Any, Any, Any]):
 
 def version_of(values: Any) -> int:
     """Returns the family of the first of some addresses, networks and runs, or 4 if there is none."""
-    for item in values if isinstance(values, (list, set, frozenset)) else ():
-        first = next(iter(item), item) if isinstance(item, (tuple, Run)) else item
-        return getattr(first, "version", 4)
-    return getattr(values[0], "version", 4) if isinstance(values, tuple) and values else 4
+    first = next(iter(values), None) if isinstance(values, (list, set, frozenset)) else values
+    first = next(iter(first), None) if isinstance(first, (tuple, Run)) else first
+    return getattr(first, "version", 4)
+
+
+def listed(values: Any) -> Any:
+    """Returns values that may be read twice: a list of them if they are an iterator."""
+    is_kept = isinstance(values, (Reads, list, tuple, Run, set, frozenset)) or hasattr(values, "network_address")
+    return values if is_kept else list(values)
 
 
 class AddressSet(AddressOptions, Changes[Any, Any, AddressItem]):
@@ -414,8 +419,7 @@ class AddressSet(AddressOptions, Changes[Any, Any, AddressItem]):
     __slots__ = ()
 
     def __init__(self, values: Iterable[AddressItem] = (), *, version: Optional[int] = None) -> None:
-        if not isinstance(values, (Reads, list, tuple, set, frozenset)) and not hasattr(values, "network_address"):
-            values = list(values)
+        values = listed(values)
         self._start(values, self._element_for(values, version=version))
 
     @classmethod
@@ -434,8 +438,7 @@ class FrozenAddressSet(AddressOptions, Freezes[Any, Any, AddressItem]):
     __slots__ = ()
 
     def __new__(cls: Type[Frozen], values: Iterable[AddressItem] = (), *, version: Optional[int] = None) -> Frozen:
-        if not isinstance(values, (Reads, list, tuple, set, frozenset)):
-            values = list(values)
+        values = listed(values)
         return cls._frozen(values, cls._element_for(values, version=version))
 
     @classmethod

@@ -7,7 +7,7 @@ from fractions import Fraction
 from ipaddress import ip_address, ip_network
 
 from kinds import INTS, KINDS, STEPS, Step
-from range_set import AddressSet, CharSet, DateSet, Element, ElementSet, FrozenDateSet, FrozenRangeSet, RangeSet, Run
+from range_set import AddressSet, CharSet, DateSet, Element, ElementSet, FrozenAddressSet, FrozenDateSet, FrozenRangeSet, RangeSet, Run
 
 
 def calls_with(made, value, bound):
@@ -213,6 +213,22 @@ class Elements(unittest.TestCase):
         self.assertRaisesRegex(TypeError, r"ip_address\(\) and AddressSet.parse\(\)", AddressSet().add, "::1")
         self.assertRaisesRegex(TypeError, "version=6", AddressSet().add, six)
         self.assertRaisesRegex(OverflowError, r"from Step\(-40\) to Step\(999\)", ElementSet(element=STEPS).add, Step(1000))
+
+    def test_networks(self):
+        net, part = ip_network("10.0.0.0/8"), ip_network("10.1.0.0/16")
+        for kind in (AddressSet, FrozenAddressSet):
+            made = kind(net)
+            self.assertEqual((len(made), made, made - part | part, part & made), (2**24, net, net, part))
+            self.assertTrue(part in made and net == made and made >= part and part < made and (made ^ net) == [])
+            self.assertEqual((kind(ip_network("::/64")).version, kind([net, ip_address("10.0.0.1")])), (6, made))
+            self.assertEqual(kind(iter([(net[0], net[-1])])).union(net), Run(net[0], net[-1]))
+            self.assertTrue(ip_network("::/8") not in made and made != ip_network("::/8") and made != kind(version=6))
+        changed = AddressSet([part])
+        changed |= net
+        changed -= part
+        self.assertEqual((changed.discard(net), changed), (True, []))
+        mapped = AddressSet([ip_address("::ffff:1.2.3.4")])
+        self.assertEqual((AddressSet.parse(str(mapped)), AddressSet.parse("::ffff:1.2.3.4")), (mapped, mapped))
 
     def test_elements(self):
         self.assertRaisesRegex(TypeError, "needs an element", ElementSet)
