@@ -40,7 +40,7 @@
 #include <stdint.h>
 
 /* The version of this header and of the library that it belongs to. */
-#define RANGE_SET_VERSION "0.1.0"
+#define RANGE_SET_VERSION "0.2.0"
 
 #ifdef __cplusplus
 extern "C" {

@@ -43,7 +43,7 @@ __all__ = [
     "RangeSet",
     "Run",
 ]
-__version__ = "0.1.0"
+__version__ = "0.2.0"
 
 if _core.version != __version__:
     raise ImportError(f"the extension module is of version {_core.version}, and the package of {__version__}: install it again")

@@ -56,7 +56,7 @@ options: --blocks (the default), --ranges, -4, -6, --help, --version
 ";
 
 /// The program's name and version.
-pub const VERSION: &str = "ip_lists 0.1.0\n";
+pub const VERSION: &str = "ip_lists 0.2.0\n";
 
 /// Reads all lists that a request names, in order, and then writes the answer.
 ///
