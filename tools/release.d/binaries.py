@@ -1,7 +1,7 @@
 """Reads what a built file needs of the system it runs on, and says what is wrong with it."""
 import re
 
-from common import ROOT, run
+from common import ROOT, compatible, run
 
 # Where a path of the machine would begin.
 OF_THE_MACHINE = re.compile(rb"(?:/home/|/root/|/work/|/tmp/|/opt/|/usr/src/)[\w./-]*")
@@ -45,6 +45,16 @@ def faults(path, is_program):
         yield f"it needs {', '.join(sorted(beyond))}"
     for name in paths_in(path):
         yield f"it has the path {name} in it"
+
+
+def faults_of_names(path):
+    """Yields what is wrong with the soname of a shared library, and with the versions of the symbols that it exports."""
+    soname, dynamic = f"librange_set.so.{compatible()}", run("readelf", "-dW", path)
+    if f"[{soname}]" not in dynamic:
+        yield f"its soname is not {soname}"
+    versions = set(re.findall(r" g +D\w* +\.text\t\S+ +(\S+) +\w+$", run("objdump", "-T", path), re.M))
+    if versions != {f"RANGE_SET_{compatible()}"}:
+        yield f"its symbols have the versions {', '.join(sorted(versions)) or 'of no name'}"
 
 
 def described(path):

@@ -2,6 +2,7 @@
 import tarfile
 import tempfile
 import zipfile
+from concurrent.futures import ThreadPoolExecutor
 from pathlib import Path
 
 import binaries
@@ -10,14 +11,17 @@ import layout
 import package
 import pages
 import python_package
-from common import ARCHIVE, ROOT, VERSION, Failed, run, say
-from roots import RELEASES, Root
+from common import ARCHIVE, PROGRAMS, ROOT, VERSION, Failed, run, say
+from roots import RELEASES, Root, root_archive
 
-# Where the check unpacks the archive, and where it then moves it.
-UNPACKED, MOVED = "/srv/unpacked", "/srv/moved"
-INSTALL_LINE = "PKG_CONFIG_PATH=out/lib/pkgconfig "
+# Where the files of the release are in a root, and where the check moves the folder of the archive.
+FILES, MOVED = "/srv/release", "/srv/moved"
+# How README's session in C names the file for pkg-config.
+FOUND_BY = "PKG_CONFIG_PATH=$PWD/out/lib/pkgconfig "
 CARGO = "cargo -q run --offline"
 MISSING = "range_set_IS_MISSING__set_RANGE_SET_LIB_DIR"
+# So that pip and apt ask nobody, and look for nothing elsewhere.
+QUIET = {"PIP_NO_INDEX": "1", "PIP_DISABLE_PIP_VERSION_CHECK": "1", "PIP_QUIET": "1", "DEBIAN_FRONTEND": "noninteractive"}
 
 
 class Trial:
@@ -48,10 +52,13 @@ class Trial:
         self.count(f"{what} leaves nothing", f"{len(changed)} files differ: {changed[:9]}" if changed else "")
 
 
-def put_programs(root):
-    """Writes README's programs, the examples and the lists of the sessions to /srv."""
+def put_files(root, out):
+    """Writes the files of the release, README's programs, the examples and the lists of the sessions to /srv."""
+    for file in out.iterdir():
+        root.put(file, f"{FILES}/{file.name}")
     source, _, _ = pages.c_session()
-    root.write("/srv/session.c", source)
+    for folder in ("", "/project", "/release"):
+        root.write(f"/srv{folder}/session.c", source)
     root.write("/srv/readme.txt", pages.python_session())
     for name in pages.EXAMPLES:
         root.put(ROOT / "examples" / name, f"/srv/{name}")
@@ -59,13 +66,12 @@ def put_programs(root):
         root.put(ROOT / "crates" / "ip_lists" / "data" / name, f"/srv/lists/{name}")
     root.put(ROOT / "crates" / "rsb_run" / "stdin", "/srv/stdin")
     root.write("/srv/project/CMakeLists.txt", pages.cmake_project(VERSION))
-    root.write("/srv/project/session.c", source)
 
 
 def try_c(trial, where, found_by):
     """Tries README's command, and the C++ example. `found_by` names the file for pkg-config, if it has to be named."""
     _, command, printed = pages.c_session()
-    trial.prints(f"README's session in C, {where}", command.replace(INSTALL_LINE, found_by), printed)
+    trial.prints(f"README's session in C, {where}", command.replace(FOUND_BY, found_by), printed)
     build = f"c++ -std=c++17 ranges.cpp $({found_by}pkg-config --cflags --libs range_set) -o ranges && ./ranges"
     trial.prints(f"the example in C++, {where}", build, pages.EXAMPLES["ranges.cpp"])
 
@@ -77,13 +83,16 @@ def try_cmake(trial, where, prefix):
     trial.prints(f"a CMake project, {where}", f"{build}; made/with_shared && made/with_static", printed * 2)
 
 
-def try_lists(trial, where, path=""):
-    """Tries the sessions of ip_lists."""
-    before = f"PATH={path}:$PATH; " if path else ""
+def try_programs(trial, where, before, names):
+    """Tries the sessions of ip_lists, and whether `man` finds the pages of programs. `before` sets the PATH."""
     for command, printed in pages.session("README.md", "printf"):
         trial.prints(f"{command[:30]!r} of README, {where}", f"{before}{command}", printed)
     for command, printed in pages.session("docs/IP_LISTS.md", "ip_lists"):
         trial.prints(f"{command!r} of its manual, {where}", f"{before}{command}", printed, folder="/srv/lists")
+    for name in names:
+        title = f"{name.upper()}(1)"
+        shown = f"{before}man {name} | grep -c '^{title}.*{title}$'"
+        trial.prints(f"man {name}, {where}", shown, "1\n", MANWIDTH="80")
 
 
 def try_python(trial, where, python):
@@ -92,88 +101,85 @@ def try_python(trial, where, python):
     trial.prints(f"README's session in Python, {where}", f"{python} -m doctest readme.txt", "")
 
 
-def try_archive(trial, out):
-    """Unpacks the archive, moves it, and tries what it has."""
-    root, where = trial.root, "over the archive"
-    root.put(out / f"{ARCHIVE}.tar.gz", "/srv/archive.tar.gz")
-    trial.prints("the archive is unpacked", f"mkdir {UNPACKED} && tar -xf archive.tar.gz -C {UNPACKED}", "")
-    trial.prints("its folder is moved", f"mv {UNPACKED}/{ARCHIVE} {MOVED}", "")
+def try_rust(trial, where, **variables):
+    """Tries the example in a project over the unpacked crate."""
+    trial.prints(f"the example in Rust, {where}", CARGO, pages.EXAMPLES["ranges.rs"], folder="/srv/app", **variables)
+
+
+def try_archive(trial):
+    """Unpacks the archive as README does, moves it, and tries what it has."""
+    where, before = "over the archive", f"PATH={MOVED}/bin:$PATH; "
+    trial.prints("README's command unpacks the archive", pages.install("linux-x86_64"), "", folder=FILES)
+    _, command, printed = pages.c_session()
+    trial.prints("README's session in C, word for word", command, printed, folder=FILES)
+    trial.prints("the folder is moved", f"mv {FILES}/out {MOVED}", "")
     try_c(trial, where, f"PKG_CONFIG_PATH={MOVED}/lib/pkgconfig ")
-    _, _, printed = pages.c_session()
     build = f"cc session.c -I{MOVED}/include {MOVED}/lib/librange_set.a -o session && ./session"
     trial.prints("README's session in C, over the static library", build, printed)
     try_cmake(trial, where, f"-DCMAKE_PREFIX_PATH={MOVED}")
-    try_lists(trial, where, f"{MOVED}/bin")
+    try_programs(trial, where, before, PROGRAMS)
     worked = (ROOT / "crates" / "rsb_run" / "stdout").read_text()
-    trial.prints("rsb_run on the worked input", f"{MOVED}/bin/rsb_run <stdin", worked)
+    trial.prints("rsb_run on the worked input", f"{before}rsb_run <stdin", worked)
 
 
-def try_wheel(trial, file, what, **variables):
+def try_pip(trial, what, install, **variables):
     """Installs the wheel or the source archive with pip, tries it, and removes it."""
-    trial.root.put(file, f"/srv/{file.name}")
+    inside = ". /srv/venv/bin/activate; "
     trial.prints(f"a virtual environment for {what}", "rm -rf venv && python3 -m venv venv", None)
-    install = f"venv/bin/pip install --quiet --no-index --disable-pip-version-check /srv/{file.name}"
-    trial.prints(f"pip installs {what}", install, None, **variables)
+    trial.prints(f"pip installs {what}", inside + install, None, folder=FILES, **QUIET, **variables)
     try_python(trial, f"from {what}", "venv/bin/python")
-    trial.prints(f"pip removes {what}", "venv/bin/pip uninstall --quiet --yes --disable-pip-version-check range-set", None)
+    trial.prints(f"pip removes {what}", f"{inside}pip uninstall --yes range-set", None, **QUIET)
     trial.prints(f"{what} leaves nothing", "find venv -iname '*range[_-]set*'", "")
 
 
-def try_packages(trial, out):
-    """Installs the Debian packages, tries them, and purges them."""
-    root, where = trial.root, "over the packages"
-    before = root.files()
-    for file in out.glob("*.deb"):
-        root.put(file, f"/srv/packages/{file.name}")
-    trial.prints("dpkg installs the packages", "dpkg -i packages/*.deb", None)
+def try_crate(trial):
+    """Builds a program over the Rust crate, with each way to find the library in a folder, and with none."""
+    here = {"folder": "/srv/app"}
+    trial.prints("README's command unpacks the crate", pages.install("crate"), "", folder=FILES)
+    trial.root.write("/srv/app/Cargo.toml", '[package]\nname = "app"\nversion = "0.0.0"\nedition = "2021"\n')
+    trial.root.put(ROOT / "examples" / "ranges.rs", "/srv/app/src/main.rs")
+    trial.prints("cargo add", f"cargo -q add --offline --path {FILES}/range_set-{VERSION}", None, **here)
+    trial.prints("cargo check without the library", "cargo check --offline", None, **here)
+    trial.refuses("cargo run without the library says what is missing", CARGO, MISSING, **here)
+    try_rust(trial, "over RANGE_SET_LIB_DIR", RANGE_SET_LIB_DIR=f"{MOVED}/lib")
+    try_rust(trial, "over pkg-config", PKG_CONFIG_PATH=f"{MOVED}/lib/pkgconfig")
+
+
+def try_packages(trial, has_rust):
+    """Installs the Debian packages as README does, tries them without the archive, and purges them."""
+    where, before = "over the packages", trial.root.files()
+    trial.prints("the archive's folder is removed", f"rm -rf {MOVED} app/target", "")
+    trial.prints("README's command installs the packages", pages.install("*.deb"), None, folder=FILES, **QUIET)
     try_c(trial, where, "")
     try_cmake(trial, where, "")
     try_python(trial, where, "python3")
-    try_lists(trial, where)
+    if has_rust:
+        try_rust(trial, where)
+    try_programs(trial, where, "", ("ip_lists",))
     completed = "COMP_WORDS=(ip_lists co); COMP_CWORD=1; _ip_lists; echo ${COMPREPLY[*]}"
-    if "rustc" in RELEASES[root.release]:
-        trial.prints(f"Rust, {where}", CARGO, pages.EXAMPLES["ranges.rs"], folder="/srv/app")
-    page = "zcat /usr/share/man/man1/ip_lists.1.gz | head -n 1 | cut -d ' ' -f 1-3"
-    trial.prints("the man page is there", page, ".TH IP_LISTS 1\n")
     load = f". /usr/share/bash-completion/completions/ip_lists; {completed}"
     trial.prints("bash completes an operation", f"bash -c '{load}'", "common complement count\n")
     trial.prints("dpkg removes the packages", f"dpkg -P {' '.join(reversed(debian.PACKAGES))}", None)
     trial.leaves_nothing("the removal of the packages", before)
 
 
-def try_crate(trial, out):
-    """Builds a program over the Rust crate, with each way to find the library, and with none."""
-    root = trial.root
-    root.put(out / f"range_set-{VERSION}.crate", "/srv/crate.tar.gz")
-    dependency = f'range_set = {{ path = "../range_set-{VERSION}" }}'
-    manifest = f'[package]\nname = "app"\nversion = "0.0.0"\nedition = "2021"\n\n[dependencies]\n{dependency}\n'
-    root.write("/srv/app/Cargo.toml", manifest)
-    root.put(ROOT / "examples" / "ranges.rs", "/srv/app/src/main.rs")
-    trial.prints("the crate is unpacked", "tar -xf crate.tar.gz", "")
-    wanted, here = pages.EXAMPLES["ranges.rs"], {"folder": "/srv/app"}
-    trial.prints("cargo check without the library", "cargo check --offline", None, **here)
-    trial.refuses("cargo run without the library says what is missing", CARGO, MISSING, **here)
-    trial.prints("Rust over RANGE_SET_LIB_DIR", CARGO, wanted, RANGE_SET_LIB_DIR=f"{MOVED}/lib", **here)
-    trial.prints("Rust over pkg-config", CARGO, wanted, PKG_CONFIG_PATH=f"{MOVED}/lib/pkgconfig", **here)
-
-
 def try_release(release, out):
     """Tries all of a release on a release of Debian, and returns how many facts passed and failed."""
+    has_rust = "rustc" in RELEASES[release]
     with Root(release) as root:
         trial = Trial(root)
-        put_programs(root)
+        put_files(root, out)
         before = root.files()
         trial.refuses("the root has no kit", "command -v rt || exit 1", "")
-        try_archive(trial, out)
+        try_archive(trial)
         trial.leaves_nothing("the archive, outside its folder,", before)
-        try_wheel(trial, next(out.glob("*.whl")), "the wheel")
-        library = f"{MOVED}/lib/librange_set.so"
-        try_wheel(trial, out / f"{python_package.NAME}.tar.gz", "the source archive", RANGE_SET_LIBRARY=library)
-        if "rustc" in RELEASES[release]:
-            try_crate(trial, out)
+        try_pip(trial, "the wheel", pages.install(".whl"))
+        try_pip(trial, "the source archive", f"pip install {python_package.NAME}.tar.gz", RANGE_SET_LIBRARY=MOVED)
+        if has_rust:
+            try_crate(trial)
         else:
             say(f"{release}: left out: the Rust crate, since its rustc is older than 1.82")
-        try_packages(trial, out)
+        try_packages(trial, has_rust)
         return trial.passed, trial.failed
 
 
@@ -189,9 +195,10 @@ def check_files(out):
             say(binaries.described(path))
         wheel = next(out.glob("*.whl"))
         with zipfile.ZipFile(wheel) as archive:
-            library = Path(archive.extract("range_set/librange_set.so", folder))
-        if python_package.tag(library)[1] not in wheel.name:
-            raise Failed(f"{wheel.name} has another tag than its library needs")
+            module = python_package.checked_module(archive.read(python_package.MODULE), Path(folder))
+        say(binaries.described(module))
+        if python_package.tag(module)[1] not in wheel.name:
+            raise Failed(f"{wheel.name} has another tag than its module needs")
 
 
 def release(out):
@@ -199,7 +206,10 @@ def release(out):
     if not (out / "SHA256SUMS").exists():
         raise Failed(f"{out} has no release: run tools/release first")
     check_files(out)
-    counts = [try_release(release, out) for release in RELEASES]
+    for name in RELEASES:
+        root_archive(name)
+    with ThreadPoolExecutor() as pool:
+        counts = list(pool.map(lambda name: try_release(name, out), RELEASES))
     failed = sum(count[1] for count in counts)
     say(f"{sum(count[0] for count in counts)} passed, {failed} failed")
     return int(bool(failed))

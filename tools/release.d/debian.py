@@ -1,11 +1,9 @@
 """Makes the Debian packages (docs/DECISIONS.md, binary-packages), and has lintian read them."""
 import email.utils
-
 import os
 import re
 import shutil
 import subprocess
-import zipfile
 from pathlib import Path
 
 import archives
@@ -84,17 +82,15 @@ def development_files(tree, room):
 
 
 def python_files(tree, room):
-    """Copies the Python package, without a library inside."""
-    made = python_package.called("build_wheel", room.parent, tree / "lib" / layout.SHARED)
-    with zipfile.ZipFile(made) as archive:
-        for name in archive.namelist():
-            if name.startswith("range_set/") and not name.endswith(".so"):
-                write(room / "usr/lib/python3/dist-packages" / name, archive.read(name))
-        about = archive.read(f"{python_package.NAME}.dist-info/METADATA")
-    made.unlink()
-    information = room / "usr/lib/python3/dist-packages" / f"{python_package.NAME}.dist-info"
-    write(information / "METADATA", about)
-    write(information / "INSTALLER", "debian\n")
+    """Copies the Python package, whose module has the library inside."""
+    files = python_package.contents(tree)
+    packages = room / "usr/lib/python3/dist-packages"
+    for name, data in files.items():
+        if name.startswith("range_set/"):
+            write(packages / name, data)
+    information = f"{python_package.NAME}.dist-info"
+    write(packages / information / "METADATA", files[f"{information}/METADATA"])
+    write(packages / information / "INSTALLER", "debian\n")
     for name in ("postinst", "prerm"):
         write(room / "DEBIAN" / name, (TEMPLATES / f"python.{name}").read_text(), 0o755)
     copied(tree / "examples" / "ranges.py", room / "usr/share/doc/python3-range-set/examples/ranges.py")
@@ -112,13 +108,12 @@ def program_files(tree, room):
 FILES = {"library": library_files, "development": development_files, "python": python_files, "programs": program_files}
 
 
-def control(kind, tree, room):
+def control(kind, room):
     """Returns the control file of a package."""
     size = sum((path.lstat().st_size + 1023) // 1024 for path in room.rglob("*") if path.is_file())
-    number = lambda *paths: ".".join(map(str, binaries.glibc_needed(*paths)))
+    code = [path for path in room.rglob("*") if path.is_file() and path.read_bytes()[:4] == b"\x7fELF"]
     filled = {
-        "LIBRARY_GLIBC": number(tree / "lib" / layout.SHARED),
-        "PROGRAM_GLIBC": number(tree / "bin" / "ip_lists"),
+        "GLIBC": ".".join(map(str, binaries.glibc_needed(*code))),
         "LIBRARY": LIBRARY,
         "DEBIAN_VERSION": REVISION,
         "MAINTAINER": maintainer(),
@@ -147,14 +142,13 @@ def package(name, kind, tree, folder, out):
     room.mkdir(parents=True)
     documents(room, name)
     FILES[kind](tree, room)
-    write(room / "DEBIAN" / "control", control(kind, tree, room))
+    write(room / "DEBIAN" / "control", control(kind, room))
     write(room / "DEBIAN" / "md5sums", sums(room))
     for path in room.rglob("*"):
         if path.is_dir():
             path.chmod(0o755)
     environment = {**os.environ, "SOURCE_DATE_EPOCH": str(release_time())}
-    architecture = "all" if kind == "python" else "amd64"
-    made = out / f"{name}_{REVISION}_{architecture}.deb"
+    made = out / f"{name}_{REVISION}_amd64.deb"
     run("dpkg-deb", "--build", "--root-owner-group", "-Zxz", "--threads-max=1", room, made, env=environment)
     return made
 

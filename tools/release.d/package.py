@@ -20,6 +20,7 @@ def check_binaries(tree):
     found = []
     for path in [*(tree / "bin" / name for name in PROGRAMS), tree / "lib" / layout.SHARED]:
         found += [f"{path.name}: {why}" for why in binaries.faults(path, path.parent.name == "bin")]
+    found += [f"{layout.SHARED}: {why}" for why in binaries.faults_of_names(tree / "lib" / layout.SHARED)]
     found += [f"librange_set.a: it has the path {name} in it" for name in binaries.paths_in(tree / "lib" / "librange_set.a")]
     if found:
         raise Failed("\n".join(found))

@@ -24,6 +24,12 @@ def session(page, begins):
     return [tuple(part.split("\n", 1)) for part in parts]
 
 
+def install(kind):
+    """Returns README's command that installs a kind of file, such as `*.deb`, without comment and `sudo`."""
+    lines = [line.split("  #")[0] for line in blocks("README.md", "sh")[0].splitlines()]
+    return next(line for line in lines if kind in line).strip().removeprefix("sudo ")
+
+
 def c_session():
     """Returns README's program in C, the command that compiles and runs it, and what that prints."""
     (command, printed), *_ = session("README.md", "cc session.c")

@@ -9,7 +9,7 @@ from common import ROOT, Failed, need, run, say
 
 KEPT = ROOT / "out" / "roots"
 MIRROR = "http://deb.debian.org/debian"
-COMMON = "gcc,g++,libc6-dev,make,cmake,pkg-config,python3,python3-venv,python3-pip,binutils,man-db"
+COMMON = "gcc,g++,libc6-dev,make,cmake,pkg-config,python3,python3-dev,python3-venv,python3-pip,binutils,man-db"
 RUST = "rustc-web,cargo-web"
 # What each release of Debian has that the check uses, from the newest to the oldest.
 RELEASES = {"bookworm": f"{COMMON},{RUST}", "bullseye": COMMON}

@@ -36,17 +36,21 @@ FILTER = (
     r"s|^\( *\)/\* \(---- \)*|\1/** |",
     r"s|^\( *\)//\( .*\)*$|\1///\2|",
 )
-# Under which title the methods of a class are that users do not name.
+# The folder of the Python package, and under which title a class is that users do not name.
+PACKAGE = ROOT / "python" / "range_set"
 TITLES = {
     "Algebra": "All sets: operators and comparisons",
-    "Reads": "All sets: places, runs, arrays and copies",
-    "Changes": "Sets that change",
-    "Freezes": "Sets that never change",
-    "IntOptions": "Sets of ints: their options",
-    "AddressOptions": "Sets of addresses: their options",
+    "Reads": "All sets: reads",
+    "Set": "All sets: counts, runs and gaps",
+    "Changing": "Sets that change: one value",
+    "Changes": "Sets that change: many values",
+    "Freezes": "Frozen sets",
+    "IntOptions": "Sets of ints: options",
+    "AddressOptions": "Sets of addresses: options",
 }
-HIDDEN = {"Addresses", "ElementOptions", "Ints", "Numbers"}
-LITERALS = re.compile(r'(?:"(?:[^"\\]|\\.)*"\s*)+')
+# What the extension module says about a function: its head, and its docstring.
+LITERALS = re.compile(r'(?:"(?:[^"\\\n]|\\.)*"\s*)+')
+OF_C = re.compile(r"(\w+)(\(.*?\))\n--\n\n(.*)", re.S)
 
 
 def called(words, **how):
@@ -72,61 +76,63 @@ def rust(room, to):
     shutil.copytree(room / "target" / "doc", to, ignore=shutil.ignore_patterns(".lock"))
 
 
-def signature(function):
-    """Returns the head of a function, as its source has it."""
-    return f"{function.name}({ast.unparse(function.args)})" + (
-        f" -> {ast.unparse(function.returns)}" if function.returns else ""
-    )
+def docstrings_of_c():
+    """Returns the head and the docstring of each function of the extension module, by its name, from the texts in its sources."""
+    found = {}
+    for file in sorted((PACKAGE.parent / "src").glob("*.[ch]")):
+        for literals in LITERALS.findall(file.read_text().replace("\\\n", "\n")):
+            told = OF_C.fullmatch(ast.literal_eval(f"({literals})"))
+            if told:
+                found[told[1]] = (told[1] + told[2].replace("$self, ", "self, ").replace("$self", "self"), told[3])
+    return found
 
 
-def is_public(item):
-    """Whether an item has a name for users, or is an operator."""
-    return not item.name.startswith("_") or (item.name.startswith("__") and item.name.endswith("__"))
+def documented(item, of_c):
+    """Yields the head and the docstring of each public method of a class that has one."""
+    for method in item.body:
+        if isinstance(method, ast.FunctionDef) and not re.match(r"_(?!_)", method.name):
+            told = ast.get_docstring(method)
+            head = f"{method.name}({ast.unparse(method.args)})" + (f" -> {ast.unparse(method.returns)}" if method.returns else "")
+            head, told = (head, told) if told else of_c.get(method.name, (head, None))
+            if told:
+                yield method.name, head, told
 
 
-def indented_code(text):
-    """Returns a docstring as text of a page: lines of code, which are indented in both, stay so."""
-    return textwrap.dedent(text).replace("<", "&lt;") if "    " not in text else textwrap.dedent(text)
+def as_page(text):
+    """Returns a docstring as text of a page, where its sessions are blocks."""
+    parts = []
+    for part in re.split(r"\n\s*\n", textwrap.dedent(text)):
+        is_session = part.lstrip().startswith(">>>")
+        parts.append(f"```pycon\n{textwrap.dedent(part)}\n```" if is_session else part.replace("<", "&lt;"))
+    return "\n\n".join(parts)
 
 
-def of_class(item):
+def of_class(item, of_c):
     """Yields the parts of a page about a class: its docstring, and its documented methods."""
     yield f"## {TITLES.get(item.name, item.name)}"
-    yield indented_code(ast.get_docstring(item) or "")
-    for method in item.body:
-        is_method = isinstance(method, ast.FunctionDef) and is_public(method)
-        told = ast.get_docstring(method) if is_method else None
-        if told:
-            yield f"### `{method.name}`"
-            yield f"```python\n{signature(method)}\n```"
-            yield indented_code(told)
+    yield as_page(ast.get_docstring(item) or of_c.get(item.name, ("", ""))[1])
+    for name, head, told in documented(item, of_c):
+        yield f"### `{name}`"
+        yield f"```python\n{head}\n```"
+        yield as_page(told)
 
 
-def with_fences(text):
-    """Returns a docstring of C with its example as a block of code."""
-    words, mark, example = text.partition("\n\n>>>")
-    return indented_code(words) + (f"\n\n```python\n>>>{example}\n```" if mark else "")
-
-
-def of_extension(file):
-    """Yields the parts of a page about the public methods of a source file of the extension module."""
-    text = (ROOT / "python" / "src" / file).read_text().replace("\\\n", "\n")
-    for literals in LITERALS.findall(text):
-        head, mark, told = ast.literal_eval(f"({literals})").partition("\n--\n\n")
-        if mark and not head.startswith("_"):
-            yield f"### `{head.partition('(')[0]}`"
-            yield f"```python\n{head.replace('$self', 'self')}\n```"
-            yield with_fences(told)
+def named_for_users():
+    """Returns the names that the package gives to its users, in order."""
+    text = (PACKAGE / "__init__.py").read_text()
+    return re.findall(r'"(\w+)"', re.search(r"^__all__ = \[(.*?)\]", text, re.M | re.S)[1])
 
 
 def python():
-    """Returns the page about the Python package."""
-    folder = ROOT / "python" / "range_set"
-    parts = ["# Python", indented_code(ast.get_docstring(ast.parse((folder / "__init__.py").read_text())))]
-    for name in ("_sets.py", "_algebra.py", "_reads.py", "_elements.py"):
-        for item in ast.parse((folder / name).read_text()).body:
-            if isinstance(item, ast.ClassDef) and is_public(item) and item.name not in HIDDEN and ast.get_docstring(item):
-                parts += of_class(item)
-    parts += ["## All sets: look-ups", *of_extension("methods.h")]
-    parts += ["## Sets that change: single values and runs", *of_extension("algebra.c"), "## Runs", *of_extension("run.c")]
+    """Returns the page about the Python package: the classes that users name, and then those that these build on."""
+    names, of_c, classes = named_for_users(), docstrings_of_c(), {}
+    for file in [*sorted(PACKAGE.glob("*.py")), *PACKAGE.glob("*.pyi")]:
+        for item in ast.parse(file.read_text()).body:
+            is_kept = isinstance(item, ast.ClassDef) and (item.name in names or any(documented(item, of_c)))
+            if is_kept and not item.name.startswith("_"):
+                classes.setdefault(item.name, item)
+    parts = ["# Python", as_page(ast.get_docstring(ast.parse((PACKAGE / "__init__.py").read_text())))]
+    order = [*(name for name in names if name in classes), *(name for name in classes if name not in names)]
+    for name in order:
+        parts += of_class(classes[name], of_c)
     return "\n\n".join(parts) + "\n"
