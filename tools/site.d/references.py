@@ -11,12 +11,16 @@ from staged import ROOT, need
 
 DOXYGEN = """\
 PROJECT_NAME = "range_set for C and C++"
-INPUT = {include}
+INPUT = {include} {room}/first.md
+USE_MDFILE_AS_MAINPAGE = {room}/first.md
 RECURSIVE = YES
-FILE_PATTERNS = *.h *.hpp
+FILE_PATTERNS = *.h *.hpp first.md
+EXCLUDE_SYMBOLS = range_set::detail*
 STRIP_FROM_PATH = {include}
 OUTPUT_DIRECTORY = {room}
 HTML_OUTPUT = c
+HTML_EXTRA_STYLESHEET = {room}/dark.css
+LAYOUT_FILE = {room}/layout.xml
 GENERATE_LATEX = NO
 EXTRACT_ALL = YES
 JAVADOC_AUTOBRIEF = YES
@@ -29,6 +33,17 @@ WARNINGS = NO
 WARN_IF_UNDOCUMENTED = NO
 INPUT_FILTER = "sed -e '{filter}'"
 """
+# The first page of doxygen's, and what is dark in a dark browser.
+FIRST = """\
+# Reference for C and C++
+
+- range_set.h has the sets for C.
+- range_set.hpp has the classes for C++17 and later.
+"""
+DARK = "@media (prefers-color-scheme: dark) { html { filter: invert(0.9) hue-rotate(180deg); background: white; } }\n"
+# The links to the other pages: a tab of doxygen's, and the end of the head of rustdoc's sidebar.
+TAB = '<navindex>\n    <tab type="user" url="../../index.html" title="Wooljasper"/>'
+HEAD = re.compile(r'(<nav class="sidebar"><div class="sidebar-crate">.*?</div>)', re.S)
 # Gives comments the form that doxygen reads. The first one of a file is about the file.
 FILTER = (
     r"1s|^/\* |/** @file\n * |",
@@ -63,6 +78,11 @@ def called(words, **how):
 def c(room, to):
     """Has doxygen read the headers."""
     need("doxygen", "doxygen")
+    (room / "first.md").write_text(FIRST)
+    (room / "dark.css").write_text(DARK)
+    called(["doxygen", "-l", str(room / "layout.xml")])
+    layout = room / "layout.xml"
+    layout.write_text(re.sub(r"<navindex>", TAB, layout.read_text()))
     (room / "Doxyfile").write_text(DOXYGEN.format(include=ROOT / "include", room=room, filter="; ".join(FILTER)))
     called(["doxygen", str(room / "Doxyfile")])
     shutil.copytree(room / "c", to)
@@ -74,6 +94,10 @@ def rust(room, to):
     words = ["cargo", "doc", "--quiet", "--offline", "--no-deps", "--manifest-path", str(ROOT / "rust" / "Cargo.toml")]
     called(words, env={**os.environ, "CARGO_TARGET_DIR": str(room / "target")})
     shutil.copytree(room / "target" / "doc", to, ignore=shutil.ignore_patterns(".lock"))
+    for page in to.rglob("*.html"):
+        home = os.path.relpath(to.parent.parent / "index.html", page.parent)
+        link = f'\\1<div class="sidebar-elems"><h3><a href="{home}">Wooljasper</a></h3></div>'
+        page.write_text(HEAD.sub(link, page.read_text(), count=1))
 
 
 def docstrings_of_c():

@@ -61,7 +61,10 @@ def mkdocs(pages, room, out):
     """Builds the site from a folder of pages. Its time is that of the commit, so that it has the same bytes each time."""
     need("mkdocs", "mkdocs and mkdocs-material")
     settings = (Path(__file__).with_name("mkdocs.yml")).read_text()
-    (room / "mkdocs.yml").write_text(settings.replace("@PAGES@", str(pages)).replace("@OUT@", str(out)))
+    others = [f", docs/{page.name}" for page in sorted((pages / "docs").glob("*.md")) if f"docs/{page.name}" not in settings]
+    for name, value in {"PAGES": str(pages), "OUT": str(out), "OTHERS": "".join(others)}.items():
+        settings = settings.replace(f"@{name}@", value)
+    (room / "mkdocs.yml").write_text(settings)
     time = subprocess.run(["git", "log", "-1", "--format=%ct"], cwd=ROOT, capture_output=True, text=True).stdout.strip()
     environment = {"SOURCE_DATE_EPOCH": time, **os.environ}
     words = ["mkdocs", "build", "--quiet", "--config-file", str(room / "mkdocs.yml")]
