@@ -82,7 +82,7 @@ def development_files(tree, room):
 
 
 def python_files(tree, room):
-    """Copies the Python package, whose module has the library inside."""
+    """Copies the Python package, whose module has the library inside (docs/DECISIONS.md, static-module)."""
     files = python_package.contents(tree)
     packages = room / "usr/lib/python3/dist-packages"
     for name, data in files.items():

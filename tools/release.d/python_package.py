@@ -17,7 +17,7 @@ from common import ROOT, VERSION, Failed, run
 PYTHON = ROOT / "python"
 NAME = f"range_set-{VERSION}"
 MODULE = "range_set/_core.abi3.so"
-# What a compiler adds to the module, besides what the backend asks of it.
+# What a compiler adds to the module, besides what the backend asks of it (docs/DECISIONS.md, no-canaries).
 HARDENED = "-fstack-protector-strong -fstack-clash-protection -D_FORTIFY_SOURCE=2"
 
 
