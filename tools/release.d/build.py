@@ -4,7 +4,7 @@ The folder that it leaves is all that the packages are made from:
 
     include, lib    as tools/c/build lays them out
     bin             the programs
-    PROVED          what the kit said of each crate, a line each, after a line with the kit's version
+    PROVED          the kit's version, the commit, and the crates that the kit said are proved, a line each
 """
 import os
 import re
@@ -16,20 +16,12 @@ from common import PROGRAMS, ROOT, Failed, fresh, git, need, run, say
 
 START = Path(__file__).resolve().with_name("start.S")
 LINKING = ("-Wl,-z,relro,-z,now,-z,noexecstack", "-Wl,--gc-sections,--as-needed", "-Wl,--build-id=sha1")
-# Words by which the kit reports what it proved.
-VERDICT = re.compile(r"^logic=proved .*|.*nothing has changed since the last proved build.*", re.M)
+# Words by which the kit reports that it proved a crate, now or in an earlier run.
+VERDICT = re.compile(r"^logic=proved |nothing has changed since the last proved build", re.M)
 
 
-def last_verdict(said):
-    """Returns the last line in which the kit says what it proved, or ends the release."""
-    lines = VERDICT.findall(said)
-    if not lines:
-        raise Failed("the kit did not say that it proved the crate")
-    return lines[-1].strip()
-
-
-def said_by(words, folder):
-    """Runs a command that proves, and returns what it says on both outputs."""
+def prove(words, folder):
+    """Runs a command that proves a crate, and ends the release if the kit does not say that it is proved."""
     say(f"proving: {' '.join(words)} in {folder.relative_to(ROOT) if folder != ROOT else 'the top folder'}")
     ran = subprocess.run(
         words, cwd=folder, stdin=subprocess.DEVNULL, stdout=subprocess.PIPE, stderr=subprocess.STDOUT, text=True
@@ -37,12 +29,8 @@ def said_by(words, folder):
     if ran.returncode:
         print(ran.stdout, file=sys.stderr)
         raise Failed(f"{' '.join(words)} failed")
-    return ran.stdout
-
-
-def library(to):
-    """Proves and builds the C library, and returns what the kit said."""
-    return last_verdict(said_by([str(ROOT / "tools" / "c" / "build"), str(to)], ROOT))
+    if not VERDICT.search(ran.stdout):
+        raise Failed(f"{' '.join(words)}: the kit did not say that it proved the crate")
 
 
 def linked(name, to):
@@ -56,11 +44,10 @@ def linked(name, to):
 
 
 def program(name, to):
-    """Proves and builds a program, and returns what the kit said."""
+    """Proves and builds a program."""
     arguments = ["--", "--version"] if name == "ip_lists" else []
-    said = said_by(["rt", "run", *arguments], ROOT / "crates" / name)
+    prove(["rt", "run", *arguments], ROOT / "crates" / name)
     linked(name, to / name)
-    return last_verdict(said)
 
 
 def all_of_it(to):
@@ -70,10 +57,9 @@ def all_of_it(to):
         raise Failed("the working tree has changes: commit them, since a release is of a commit")
     fresh(to)
     (to / "bin").mkdir()
-    said = {"range_set_c": library(to)}
+    prove([str(ROOT / "tools" / "c" / "build"), str(to)], ROOT)
     for name in PROGRAMS:
-        said[name] = program(name, to / "bin")
-    lines = [run("rt", "version").strip(), git("rev-parse", "HEAD")]
-    lines += [f"{name}: {line}" for name, line in said.items()]
+        program(name, to / "bin")
+    lines = [run("rt", "version").strip(), git("rev-parse", "HEAD"), "range_set_c", *PROGRAMS]
     (to / "PROVED").write_text("\n".join(lines) + "\n")
     return to

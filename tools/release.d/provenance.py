@@ -10,9 +10,8 @@ def proofs(built):
     proved = built / "PROVED"
     if not proved.exists():
         return ["Nothing is known of the proofs of these files: they were not built by tools/release."]
-    kit, commit, *said = proved.read_text().splitlines()
-    lines = [f"Kit: {kit}", f"Commit of the proofs: {commit}", "What the kit said of each crate, after it had proved those below it:"]
-    return lines + [f"  {line}" for line in said]
+    kit, commit, *crates = proved.read_text().splitlines()
+    return [f"Kit: {kit}", f"Commit of the proofs: {commit}", f"Proved crates, with all below them: {', '.join(crates)}"]
 
 
 def text(built, tree):
