@@ -4,10 +4,12 @@ import re
 from common import ROOT
 
 LAST = 2**64 - 1
+# The ends of a set in Python, which has signed values unless it is asked for others.
+SIGNED = (-(2**63), 2**63 - 1)
 # What the programs of examples/ print.
 EXAMPLES = {
     "ranges.cpp": f"9..=9\n15..=18\nclosed 0..=8, 19..={LAST}\n",
-    "ranges.py": f"open 9..=18\nclosed {-(2**63)}..=8, 19..={2**63 - 1}\n9..=9\n15..=18\n",
+    "ranges.py": f"open 9..=18\nclosed {SIGNED[0]}..=8, 19..={SIGNED[1]}\n9..=9\n15..=18\n",
     "ranges.rs": f"true true\nfree 9..=9\nfree 15..=18\nclosed 0..=8, 19..={LAST}\n",
 }
 
