@@ -14,6 +14,8 @@ VIEWS = (
     ("python", "reference/python.html", WIDE, "document.body.innerText.includes('symmetric_difference_update')"),
     ("c", "reference/c/range__set_8h.html", WIDE, "document.body.innerText.includes('rsb_u64_insert_range')"),
     ("rust", "reference/rust/range_set/struct.RangeSet.html", WIDE, "document.body.innerText.includes('try_insert')"),
+    ("dark", "docs/IP_LISTS.html", NARROW, "document.body.dataset.mdColorScheme == 'slate'"),
+    ("dark-c", "reference/c/index.html", WIDE, "getComputedStyle(document.documentElement).filter != 'none'"),
 )
 
 
@@ -37,7 +39,7 @@ def faults(site, pictures):
     server = served(site)
     with Chromium() as browser:
         for name, page, size, expression in VIEWS:
-            browser.open(f"http://127.0.0.1:{server.server_address[1]}/{page}", *size)
+            browser.open(f"http://127.0.0.1:{server.server_address[1]}/{page}", *size, is_dark=name.startswith("dark"))
             if not browser.waits_for(f"document.readyState == 'complete' && {expression}"):
                 yield f"{name}: {page} does not show what it should"
             browser.keep_picture(pictures / f"{name}.png")

@@ -82,11 +82,13 @@ class Chromium:
         """Returns the value of an expression on the page."""
         return self.call("Runtime.evaluate", expression=expression, returnByValue=True)["result"].get("value")
 
-    def open(self, url, width, height):
-        """Opens a page on a screen of a size."""
+    def open(self, url, width, height, is_dark):
+        """Opens a page on a screen of a size, in a browser that is set to dark or to light."""
         self.errors.clear()
         size = {"width": width, "height": height, "deviceScaleFactor": 1, "mobile": width < 600}
         self.call("Emulation.setDeviceMetricsOverride", **size)
+        scheme = {"name": "prefers-color-scheme", "value": "dark" if is_dark else "light"}
+        self.call("Emulation.setEmulatedMedia", features=[scheme])
         self.call("Page.navigate", url=url)
 
     def waits_for(self, expression):
