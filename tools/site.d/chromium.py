@@ -84,6 +84,8 @@ class Chromium:
 
     def open(self, url, width, height, is_dark):
         """Opens a page on a screen of a size, in a browser that is set to dark or to light."""
+        # The site keeps whether it is dark from page to page.
+        self.value("try { localStorage.clear() } catch { }")
         self.errors.clear()
         size = {"width": width, "height": height, "deviceScaleFactor": 1, "mobile": width < 600}
         self.call("Emulation.setDeviceMetricsOverride", **size)
