@@ -3,6 +3,8 @@ import re
 
 from common import ROOT, compatible, run
 
+# The glibc that the pages name: what is released runs with it and with later ones.
+OLDEST_GLIBC = (2, 14)
 # Where a path of the machine would begin.
 OF_THE_MACHINE = re.compile(rb"(?:/home/|/root/|/work/|/tmp/|/opt/|/usr/src/)[\w./-]*")
 
@@ -43,6 +45,8 @@ def faults(path, is_program):
     beyond = set(libraries_needed(path)) - {"libc.so.6"}
     if beyond:
         yield f"it needs {', '.join(sorted(beyond))}"
+    if glibc_needed(path) > OLDEST_GLIBC:
+        yield f"it needs glibc {'.'.join(map(str, glibc_needed(path)))}"
     for name in paths_in(path):
         yield f"it has the path {name} in it"
 

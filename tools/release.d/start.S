@@ -1,5 +1,6 @@
-# Where a program begins (docs/DECISIONS.md, own-start-file), as in glibc's own start file, except that it calls the oldest version of __libc_start_main. A newer
-# glibc still has that version, so the program runs on old and new systems. It has no constructors that it would have to run.
+# Where a program begins (docs/DECISIONS.md, own-start-file), as in glibc's own start file, except that it calls the oldest
+# version of __libc_start_main. A newer glibc still has that version, so the program runs on old and new systems. It has no
+# constructors that it would have to run.
         .symver __libc_start_main, __libc_start_main@GLIBC_2.2.5
         .text
         .globl  _start
@@ -19,4 +20,27 @@ _start:
         call    *__libc_start_main@GOTPCREL(%rip)
         hlt
         .size   _start, .-_start
+
+# The kit's `main` first asks glibc what the processor has, by a call that glibc has only since 2.33. This answers instead, as
+# far as `main` reads it: for the index 0 what CPUID says in ECX for leaf 1, and for any other index for leaf 0x80000001.
+        .globl  __x86_get_cpuid_feature_leaf
+        .hidden __x86_get_cpuid_feature_leaf
+        .type   __x86_get_cpuid_feature_leaf, @function
+__x86_get_cpuid_feature_leaf:
+        endbr64
+        pushq   %rbx
+        movl    $1, %eax
+        testl   %edi, %edi
+        jz      1f
+        movl    $0x80000001, %eax
+1:      xorl    %ecx, %ecx
+        cpuid
+        leaq    features(%rip), %rax
+        movl    %ecx, 24(%rax)          # the third register of those that are active
+        popq    %rbx
+        ret
+        .size   __x86_get_cpuid_feature_leaf, .-__x86_get_cpuid_feature_leaf
+
+        .local  features
+        .comm   features, 32, 8
         .section .note.GNU-stack, "", @progbits
