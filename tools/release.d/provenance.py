@@ -5,13 +5,19 @@ from common import PROGRAMS, VERSION, git, run
 from layout import SHARED
 
 
+# What the proofs cover.
+COVERED = """
+Proved are the functions of the C library and the two programs. docs/PROVED.md says what that means, and what
+is only tested. The headers' own functions, the C++ class, the Python package and the Rust crate are only tested."""
+
+
 def proofs(built):
-    """Returns what the kit said, or that nothing of it is known."""
+    """Returns what the kit said and what that covers, or that nothing of it is known."""
     proved = built / "PROVED"
     if not proved.exists():
         return ["Nothing is known of the proofs of these files: they were not built by tools/release."]
     kit, commit, *crates = proved.read_text().splitlines()
-    return [f"Kit: {kit}", f"Commit of the proofs: {commit}", f"Proved crates, with all below them: {', '.join(crates)}"]
+    return [f"Kit: {kit}", f"Commit of the proofs: {commit}", f"Proved crates, with all below them: {', '.join(crates)}", COVERED]
 
 
 def text(built, tree):
@@ -24,8 +30,6 @@ def text(built, tree):
         f"Commit: {git('rev-parse', 'HEAD')}",
         *proofs(built),
         "",
-        "Proved are the functions of the C library and the two programs. docs/PROVED.md says what that means, and what",
-        "is only tested. The headers' own functions, the C++ class, the Python package and the Rust crate are only tested.",
         f"The shared library and the programs were linked by: {compiler}",
         "",
         "SHA-256, as in this archive:",
