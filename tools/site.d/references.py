@@ -11,12 +11,12 @@ from staged import ROOT, need
 
 DOXYGEN = """\
 PROJECT_NAME = "range_set for C and C++"
-INPUT = {include} {room}/first.md
-USE_MDFILE_AS_MAINPAGE = {room}/first.md
+INPUT = {room}/include
+USE_MDFILE_AS_MAINPAGE = {room}/include/first.md
 RECURSIVE = YES
 FILE_PATTERNS = *.h *.hpp first.md
 EXCLUDE_SYMBOLS = range_set::detail*
-STRIP_FROM_PATH = {include}
+STRIP_FROM_PATH = {room}/include
 OUTPUT_DIRECTORY = {room}
 HTML_OUTPUT = c
 HTML_EXTRA_STYLESHEET = {room}/dark.css
@@ -75,16 +75,31 @@ def called(words, **how):
         sys.exit(f"{' '.join(words)}: {ran.stdout}{ran.stderr}")
 
 
+def name_folders(made):
+    """Gives the pages of doxygen's about folders names that do not depend on where they were made."""
+    pages = {re.search("<title>.*</title>", page.read_text())[0]: page for page in made.glob("dir_*.html")}
+    names = {pages[title].stem: f"dir_{number}" for number, title in enumerate(sorted(pages))}
+    for file in [*made.rglob("*.html"), *made.rglob("*.js")]:
+        text = file.read_text()
+        renamed = re.sub(r"dir_[0-9a-f]{32}", lambda found: names.get(found[0], found[0]), text)
+        if renamed != text:
+            file.write_text(renamed)
+    for page in pages.values():
+        page.rename(made / f"{names[page.stem]}.html")
+
+
 def c(room, to):
     """Has doxygen read the headers."""
     need("doxygen", "doxygen")
-    (room / "first.md").write_text(FIRST)
+    shutil.copytree(ROOT / "include", room / "include")
+    (room / "include" / "first.md").write_text(FIRST)
     (room / "dark.css").write_text(DARK)
     called(["doxygen", "-l", str(room / "layout.xml")])
     layout = room / "layout.xml"
     layout.write_text(re.sub(r"<navindex>", TAB, layout.read_text()))
-    (room / "Doxyfile").write_text(DOXYGEN.format(include=ROOT / "include", room=room, filter="; ".join(FILTER)))
+    (room / "Doxyfile").write_text(DOXYGEN.format(room=room, filter="; ".join(FILTER)))
     called(["doxygen", str(room / "Doxyfile")])
+    name_folders(room / "c")
     shutil.copytree(room / "c", to)
 
 
