@@ -144,9 +144,9 @@ def package(name, kind, tree, folder, out):
     FILES[kind](tree, room)
     write(room / "DEBIAN" / "control", control(kind, room))
     write(room / "DEBIAN" / "md5sums", sums(room))
-    for path in room.rglob("*"):
-        if path.is_dir():
-            path.chmod(0o755)
+    for path in [room, *room.rglob("*")]:
+        if not path.is_symlink():
+            path.chmod(archives.mode_of(path))
     environment = {**os.environ, "SOURCE_DATE_EPOCH": str(release_time())}
     made = out / f"{name}_{REVISION}_amd64.deb"
     run("dpkg-deb", "--build", "--root-owner-group", "-Zxz", "--threads-max=1", room, made, env=environment)
