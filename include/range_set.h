@@ -28,9 +28,9 @@
  * A freed handle is the empty set again, so you may free it twice or go on using it.
  *
  * A call leaves the set of a `const` handle unchanged, and does not allocate for it, except that
- * rsb_u64_to_text allocates the text, and rsb_u64_sets_add a copy. It also writes nothing to that
- * set, so several such calls may read one set at once. This last fact is tested and not proved,
- * since a contract assumes that no other call uses the same handles.
+ * rsb_u64_to_text and rsb_u64_to_bytes allocate what they write, and rsb_u64_sets_add a copy. It
+ * also writes nothing to that set, so several such calls may read one set at once. This last fact is
+ * tested and not proved, since a contract assumes that no other call uses the same handles.
  */
 #ifndef RANGE_SET_H
 #define RANGE_SET_H
@@ -46,15 +46,16 @@
 extern "C" {
 #endif
 
-/* What a call that changes a set returns: one of the first three. rsb_u64_from_text and
-   rsb_u64_to_text return RSB_CHANGED, RSB_NO_MEMORY, or the one that names them. A call that clears
-   or frees a set always succeeds, and returns nothing. */
+/* What a call that changes a set returns: one of the first three. The calls that read or write text
+   or bytes return RSB_CHANGED, RSB_NO_MEMORY, or one that names them. A call that clears or frees a
+   set always succeeds, and returns nothing. */
 enum {
     RSB_UNCHANGED = 0, /* the set was already as requested, and is unchanged */
     RSB_CHANGED = 1,   /* the set is now as requested, and was not; or `out` is the new set */
     RSB_NO_MEMORY = 2, /* an allocation failed, and each set of the call is unchanged */
     RSB_BAD_TEXT = 3,  /* from_text: the text does not list ranges, and `out` is unchanged */
-    RSB_NO_ROOM = 4    /* to_text: the text does not fit, and the buffer is unchanged */
+    RSB_NO_ROOM = 4,   /* to_text, to_bytes: they do not fit, and the buffer is unchanged */
+    RSB_BAD_BYTES = 5  /* from_bytes: the bytes are not those of a set, and `out` is unchanged */
 };
 
 /* The empty set, or the empty list: `rsb_u64 set = RSB_EMPTY;`. In C++, a function that this header
@@ -454,6 +455,8 @@ void rsb_u128_sets_free(rsb_u128_sets *list);
 #include "range_set/u128_text.h"
 #include "range_set/u128_walk.h"
 /* End */
+
+#include "range_set/bytes.h"
 
 #ifdef __cplusplus
 }

@@ -1,4 +1,5 @@
 pub mod Answer
+pub mod BadBytes
 pub mod NullableBox
 pub mod SetText
 pub mod U128Handle

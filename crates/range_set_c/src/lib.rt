@@ -6,6 +6,7 @@
 //! its handles are different sets (docs/DECISIONS.md, handles-apart).
 #![tactic(auto)]
 
+mod bad_bytes;
 mod long_run;
 mod nullable_box;
 mod status;

@@ -1,5 +1,5 @@
-//! What a call that changes a set returns, and a call that reads or writes text. A call that clears
-//! or frees a set always succeeds, and returns nothing.
+//! What a call that changes a set returns, and a call that reads or writes text or bytes. A call
+//! that clears or frees a set always succeeds, and returns nothing.
 
 /// The set was already as requested, and is unchanged.
 pub const UNCHANGED: u32 = 0;
@@ -13,5 +13,8 @@ pub const NO_MEMORY: u32 = 2;
 /// The text does not list ranges of numbers of the type, and the set is unchanged.
 pub const BAD_TEXT: u32 = 3;
 
-/// The buffer is too small for the text, and is unchanged.
+/// The buffer is too small for the text or the bytes, and is unchanged.
 pub const NO_ROOM: u32 = 4;
+
+/// The bytes are not those of a set of the type, and the set is unchanged.
+pub const BAD_BYTES: u32 = 5;

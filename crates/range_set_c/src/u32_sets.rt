@@ -2,6 +2,7 @@
 //! Sets of `u32`.
 
 mod arrays;
+mod bytes;
 mod changes;
 mod combinations;
 mod comparisons;

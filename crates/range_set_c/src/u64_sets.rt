@@ -1,6 +1,7 @@
 //! Sets of `u64`.
 
 mod arrays;
+mod bytes;
 mod changes;
 mod combinations;
 mod comparisons;

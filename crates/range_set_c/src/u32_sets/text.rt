@@ -114,9 +114,9 @@ fn text_of_set(alloc: Global, set: &RangeSetBlaze<u32, Global>) -> Result<String
     Ok(text)
 }
 
-// Writes text to the front of a buffer and returns true. If it does not fit, it returns false, and
+// Writes text, or bytes, to the front of a buffer and returns true. If it does not fit, it returns false, and
 // the buffer is unchanged.
-fn put(text: &[u8], buffer: &mut [u8]) -> bool
+pub(super) fn put(text: &[u8], buffer: &mut [u8]) -> bool
     ensures written { IsTrue result
         → buffer.new ≡ text.now ++ drop (length text.now) buffer.old }
     ensures left { IsFalse result → buffer.new ≡ buffer.old }
