@@ -1,4 +1,5 @@
-//! Element types whose values are converted to their ranks, and back.
+//! Element types whose values are converted to ranks, and back
+//! (docs/DECISIONS.md, ranks-in-code).
 
 ghost use Rattle.std.specs.Prelude.{◌≡◌, ◌<◌};
 

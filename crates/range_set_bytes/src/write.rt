@@ -1,4 +1,4 @@
-//! Writes a set as bytes.
+//! Writes a set as bytes (docs/DECISIONS.md, bytes-by-ranks).
 
 ghost use Rattle.std.specs.Prelude.{◌≡◌, ◌<◌, ◌^◌, IfOk};
 ghost use Rattle.range_set_bytes.specs.Format.{bytes_of, header};
