@@ -155,7 +155,7 @@ static size_t wrote(const set_t *set, const table *bits) {
     return length;
 }
 
-/* Changes a byte or two, cuts the bytes short, or adds some. */
+/* Changes a byte or two, cuts the bytes short, adds one, or draws all that follow the header. */
 static size_t mutated(unsigned char *these, size_t length) {
     static const unsigned char likely[] = {0, 1, 127, 128, 129, 255};
     for (size_t changes = 1 + drawn(2); changes > 0; changes--) {
@@ -168,6 +168,11 @@ static size_t mutated(unsigned char *these, size_t length) {
     case 1:
         these[length] = (unsigned char)drawn(256);
         return length + 1;
+    case 2:
+        for (size_t i = 6; i < length; i++) {
+            these[i] = (unsigned char)drawn(256);
+        }
+        return length;
     default:
         return length;
     }

@@ -15,18 +15,62 @@ static REFUSED: [(&'static [u8], usize, Reason); 20] = [
     (&[0xF5, 0x52, 0x53, 0x42, 1, 0x40, 0], 5, Reason::OtherWidth),
     (&[0xF5, 0x52, 0x53, 0x42, 1, 8], 6, Reason::CutShort),
     (&[0xF5, 0x52, 0x53, 0x42, 1, 8, 0x80], 7, Reason::CutShort),
-    (&[0xF5, 0x52, 0x53, 0x42, 1, 8, 0x81, 1], 6, Reason::PastGreatest),
-    (&[0xF5, 0x52, 0x53, 0x42, 1, 8, 0x80, 2], 7, Reason::PastGreatest),
-    (&[0xF5, 0x52, 0x53, 0x42, 1, 8, 0x80, 0], 7, Reason::NotShortest),
-    (&[0xF5, 0x52, 0x53, 0x42, 1, 8, 1, 0x83, 0, 0], 8, Reason::NotShortest),
-    (&[0xF5, 0x52, 0x53, 0x42, 1, 8, 2, 3, 4, 0], 9, Reason::Touching),
-    (&[0xF5, 0x52, 0x53, 0x42, 1, 8, 1, 0xC8, 1, 0x38], 9, Reason::PastGreatest),
-    (&[0xF5, 0x52, 0x53, 0x42, 1, 8, 1, 0x80, 0x80, 1], 8, Reason::PastGreatest),
-    (&[0xF5, 0x52, 0x53, 0x42, 1, 8, 2, 0xFF, 1], 7, Reason::PastGreatest),
-    (&[0xF5, 0x52, 0x53, 0x42, 1, 8, 1, 0xC8, 1], 9, Reason::CutShort),
-    (&[0xF5, 0x52, 0x53, 0x42, 1, 8, 2, 0, 0], 9, Reason::CutShort),
+    (
+        &[0xF5, 0x52, 0x53, 0x42, 1, 8, 0x81, 1],
+        6,
+        Reason::PastGreatest,
+    ),
+    (
+        &[0xF5, 0x52, 0x53, 0x42, 1, 8, 0x80, 2],
+        7,
+        Reason::PastGreatest,
+    ),
+    (
+        &[0xF5, 0x52, 0x53, 0x42, 1, 8, 0x80, 0],
+        7,
+        Reason::NotShortest,
+    ),
+    (
+        &[0xF5, 0x52, 0x53, 0x42, 1, 8, 1, 0x83, 0, 0],
+        8,
+        Reason::NotShortest,
+    ),
+    (
+        &[0xF5, 0x52, 0x53, 0x42, 1, 8, 2, 3, 4, 0],
+        9,
+        Reason::Touching,
+    ),
+    (
+        &[0xF5, 0x52, 0x53, 0x42, 1, 8, 1, 0xC8, 1, 0x38],
+        9,
+        Reason::PastGreatest,
+    ),
+    (
+        &[0xF5, 0x52, 0x53, 0x42, 1, 8, 1, 0x80, 0x80, 1],
+        8,
+        Reason::PastGreatest,
+    ),
+    (
+        &[0xF5, 0x52, 0x53, 0x42, 1, 8, 2, 0xFF, 1],
+        7,
+        Reason::PastGreatest,
+    ),
+    (
+        &[0xF5, 0x52, 0x53, 0x42, 1, 8, 1, 0xC8, 1],
+        9,
+        Reason::CutShort,
+    ),
+    (
+        &[0xF5, 0x52, 0x53, 0x42, 1, 8, 2, 0, 0],
+        9,
+        Reason::CutShort,
+    ),
     (&[0xF5, 0x52, 0x53, 0x42, 1, 8, 0, 0], 7, Reason::TooLong),
-    (&[0xF5, 0x52, 0x53, 0x42, 1, 8, 1, 3, 4, 9, 9], 9, Reason::TooLong),
+    (
+        &[0xF5, 0x52, 0x53, 0x42, 1, 8, 1, 3, 4, 9, 9],
+        9,
+        Reason::TooLong,
+    ),
 ];
 
 /// Whether the bytes are refused at the place, for the reason.
@@ -45,7 +89,10 @@ pub fn is_refused<T: RankedInteger>(
 #[test]
 fn the_first_wrong_byte_and_the_reason_are_told(rt: HostRuntime) -> Result<(), Fail> {
     for (bytes, place, reason) in &REFUSED {
-        assert!(rt; is_refused::<u8>(rt.alloc(), bytes, *place, *reason), "{bytes:?}");
+        assert!(rt;
+            is_refused::<u8>(rt.alloc(), bytes, *place, *reason),
+            "{bytes:?}"
+        );
     }
     Ok(())
 }

@@ -29,9 +29,7 @@ fn is_read<T: RankedInteger>(alloc: Global, bytes: &[u8], set: &RangeSetBlaze<T>
 
 #[test]
 fn the_examples_of_the_page_are_written_and_read(rt: HostRuntime) -> Result<(), Fail> {
-    let three = [
-        0xF5, 0x52, 0x53, 0x42, 1, 8, 3, 3, 4, 2, 0, 0xBD, 1, 0x37,
-    ];
+    let three = [0xF5, 0x52, 0x53, 0x42, 1, 8, 3, 3, 4, 2, 0, 0xBD, 1, 0x37];
     assert!(rt; is_written::<u8>(rt.alloc(), &[(3, 7), (10, 10), (200, 255)], &three)?);
     let about_zero = [
         0xF5, 0x52, 0x53, 0x42, 1, 0x40, 1, 255, 255, 255, 255, 255, 255, 255, 255, 0x7F, 0xAD, 2,
