@@ -20,25 +20,19 @@ enum {
    it is greater than `capacity`: then returns RSB_NO_ROOM, and `buffer` is unchanged. Otherwise
    returns RSB_CHANGED. If an allocation fails, returns RSB_NO_MEMORY, and `buffer` and `length` are
    unchanged. With 20 bytes for each run and 16 more, there is room. */
-RSB_NODISCARD uint32_t rsb_u64_to_bytes(
-    const rsb_u64 *set, unsigned char *buffer, size_t capacity, size_t *length);
+RSB_NODISCARD uint32_t rsb_u64_to_bytes(const rsb_u64 *set, unsigned char *buffer, size_t capacity, size_t *length);
 
 /* Sets `out` to the set whose bytes these are, and returns RSB_CHANGED. If they are those of no set,
    stores the position of the first wrong byte in `position` and what is wrong with it in `reason`,
    and returns RSB_BAD_BYTES. If an allocation fails, returns RSB_NO_MEMORY. In both cases, `out` is
    unchanged. `position` and `reason` are unchanged unless it returns RSB_BAD_BYTES. Allocates memory
    only for runs that it has read, whatever count of runs the bytes announce. */
-RSB_NODISCARD uint32_t rsb_u64_from_bytes(
-    rsb_u64 *out, const unsigned char *bytes, size_t length, size_t *position, uint32_t *reason);
+RSB_NODISCARD uint32_t rsb_u64_from_bytes(rsb_u64 *out, const unsigned char *bytes, size_t length, size_t *position, uint32_t *reason);
 
 /* The same for uint32_t (with 10 bytes for each run, there is room) and for 128 bits (with 38). */
-RSB_NODISCARD uint32_t rsb_u32_to_bytes(
-    const rsb_u32 *set, unsigned char *buffer, size_t capacity, size_t *length);
-RSB_NODISCARD uint32_t rsb_u32_from_bytes(
-    rsb_u32 *out, const unsigned char *bytes, size_t length, size_t *position, uint32_t *reason);
-RSB_NODISCARD uint32_t rsb_u128_to_bytes(
-    const rsb_u128 *set, unsigned char *buffer, size_t capacity, size_t *length);
-RSB_NODISCARD uint32_t rsb_u128_from_bytes(
-    rsb_u128 *out, const unsigned char *bytes, size_t length, size_t *position, uint32_t *reason);
+RSB_NODISCARD uint32_t rsb_u32_to_bytes(const rsb_u32 *set, unsigned char *buffer, size_t capacity, size_t *length);
+RSB_NODISCARD uint32_t rsb_u32_from_bytes(rsb_u32 *out, const unsigned char *bytes, size_t length, size_t *position, uint32_t *reason);
+RSB_NODISCARD uint32_t rsb_u128_to_bytes(const rsb_u128 *set, unsigned char *buffer, size_t capacity, size_t *length);
+RSB_NODISCARD uint32_t rsb_u128_from_bytes(rsb_u128 *out, const unsigned char *bytes, size_t length, size_t *position, uint32_t *reason);
 
 #endif

@@ -114,12 +114,10 @@ static void read_both(set_t *out, const unsigned char *these, size_t length) {
     uint32_t reason = 7;
     long before = asked;
     uint32_t answer = BYTES(from_bytes)(out, length > 0 ? these : NULL, length, &place, &reason);
-    bool refused = refused_at > before && refused_at <= asked;
     if (answer == RSB_NO_MEMORY) {
-        CHECK(refused && place == 7 && reason == 7);
+        CHECK(refused_at > before && refused_at <= asked && place == 7 && reason == 7);
         return;
     }
-    CHECK(!refused);
     if (wanted.reason != 0) {
         CHECK(answer == RSB_BAD_BYTES && place == wanted.place && reason == wanted.reason);
         return;
