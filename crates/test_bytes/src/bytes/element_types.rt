@@ -71,13 +71,11 @@ fn is_reread<T: RankedInteger>(alloc: Global, bits: u8) -> Result<bool, ReadErro
     ends.insert(greatest)?;
     let mut all = RangeSetBlaze::<T>::new(alloc);
     all.ranges_insert(least..=greatest)?;
-    let mut bytes = to_bytes(alloc, &ends)?;
-    let found = bytes[5];
-    bytes[5] = bits.wrapping_add(1);
-    let other = is_refused::<T>(alloc, &bytes, 5, Reason::OtherWidth);
+    let bytes = to_bytes(alloc, &ends)?;
+    let other = [0xF5, 0x52, 0x53, 0x42, 1, bits.wrapping_add(1), 0];
     Ok(
-        found == bits
-            && other
+        bytes.get(5) == Some(&bits)
+            && is_refused::<T>(alloc, &other, 5, Reason::OtherWidth)
             && reread(alloc, &none)? == none
             && reread(alloc, &ends)? == ends
             && reread(alloc, &all)? == all,

@@ -46,10 +46,10 @@ fn the_examples_of_the_page_are_written_and_read(rt: HostRuntime) -> Result<(), 
 }
 
 /// Returns a set of 50,000 runs, of one to seven values each.
-fn many_runs(alloc: Global) -> Result<RangeSetBlaze<i32>, AllocError> {
+fn many_runs(alloc: Global) -> Result<RangeSetBlaze<u32>, AllocError> {
     let mut set = RangeSetBlaze::new(alloc);
-    for i in 0..50_000i32 {
-        set.ranges_insert(i * 300 - 7_000_000..=i * 300 - 7_000_000 + i % 7)?;
+    for i in 0..50_000u32 {
+        set.ranges_insert(i * 300..=i * 300 + i % 7)?;
     }
     Ok(set)
 }
@@ -60,7 +60,7 @@ fn tens_of_thousands_of_runs_are_written_and_read(rt: HostRuntime) -> Result<(),
     let set = many_runs(rt.alloc())?;
     assert!(rt; set.ranges_len() == 50_000);
     let bytes = to_bytes(rt.alloc(), &set)?;
-    assert!(rt; bytes.len() == 150_012);
+    assert!(rt; bytes.len() == 150_008);
     assert!(rt; is_read(rt.alloc(), &bytes, &set));
     Ok(())
 }
