@@ -2,6 +2,10 @@
 //
 //     range_set::u64_set open{{9, 11}, {13, 18}}, busy{{10, 14}};
 //     for (auto [first, last] : open - busy) { .. } // 9..=9, then 15..=18
+//     range_set::set<int> odd{-3, -1, 1, 3};
+//
+// A set may hold integers of up to 128 bits, characters, enums, time points such as std::chrono::sys_days,
+// and your own types: range_set/elements.hpp says how. u64_set is set<std::uint64_t>.
 //
 // The class fulfills the duties of range_set.h that are about handles and pointers, so you may combine
 // a set with itself. The others are yours, such as this one on threads: while a call changes a set, no
@@ -12,17 +16,21 @@
 // constructor and no copy assignment, since they would hide an allocation. Copy a set with
 // `auto b = a.clone();` or `range_set::u64_set b(range_set::clone, a);`.
 //
-// Arguments: a value, or a number of values, may have any standard integer type. If it is negative or
-// too great, the call throws std::out_of_range and leaves each set unchanged. contains and is_disjoint do
-// not: such a value is no member. These types are refused at compile time: bool, character types,
-// floating-point types and enums. signed char and unsigned char are allowed, since std::int8_t and
-// std::uint8_t are these types. A call that reads a set is noexcept if its argument types rule out such a
-// value. Only size() is not.
+// Arguments: for a set of integers, a value may have any integer type, and so may a number of values. For a
+// set of characters, a value may have any character type or integer type. For other sets, a value has the
+// type of the set, or converts to it implicitly. If a value is below the least one of the type or above the
+// greatest one, the call throws std::out_of_range and leaves each set unchanged. contains, count, find,
+// lower_bound, upper_bound, is_disjoint and intersects do not: such a value is no member. These types are
+// refused at compile time for a set of integers: bool, character types, floating-point types and enums.
+// signed char and unsigned char are allowed, since std::int8_t and std::uint8_t are these types. A call that
+// reads a set is noexcept if its argument types rule out such a value. Only size() is not.
 //
 // Without exceptions, as with -fno-exceptions, a call that would throw calls std::abort.
 //
-// Runs: first and last, as two arguments or as `{first, last}`, mean all values between them, both
-// included. If last is below first, they mean no value. A range_set::run or a std::pair means the same.
+// Runs: first and last mean all values between them, both included. If last is below first, they mean no
+// value. They are two arguments, a range_set::run, a std::pair, or a pair in braces in a list in braces.
+// In a list in braces, a single value means itself: `{1, 5}` has two members, and `{{1, 5}}` has five.
+// Where `{1, 5}` could be either, it is refused (docs/DECISIONS.md, two-values-in-braces).
 #ifndef RANGE_SET_HPP
 #define RANGE_SET_HPP
 
@@ -30,7 +38,9 @@
 #error range_set.hpp needs C++17 or later: compile with -std=c++17
 #else
 
+#include "range_set/gather.hpp"
 #include "range_set/iterators.hpp"
+#include "range_set/text.hpp"
 
 #include <initializer_list>
 #include <new>
@@ -47,29 +57,40 @@ struct clone_t {
 };
 inline constexpr clone_t clone{};
 
-// A set of std::uint64_t or of std::uint32_t.
-template <class Number> class set {
-    static_assert(detail::is_one_of<Number, std::uint64_t, std::uint32_t>,
-                  "range_set::set holds std::uint64_t or std::uint32_t, because the C library has sets of only these "
-                  "two types. Another type is refused even if it is as wide: name one of the two.");
+// A set of values of an element type.
+template <class Type> class set {
+    static_assert(
+        detail::is_element<Type>,
+        "range_set::set holds integers of up to 128 bits, bool, characters, enums, and time points and durations "
+        "of std::chrono. For a type of your own, specialize range_set::element.");
+    static_assert(detail::ranked<Type>::is_unsigned, "range_set::element<Type>::rank returns an unsigned integer");
 
-    using c = detail::calls<Number>;
-    using run_walk = detail::run_walk<Number>;
-    using gap_walk = detail::gap_walk<Number>;
-    using member_walk = detail::member_walk<Number>;
-    template <class... Arguments> static constexpr bool fits = (detail::always_fits<Number, Arguments> && ...);
+    using number_type = detail::number_of<Type>;
+    using c = detail::calls<number_type>;
+    using stored_run = typename c::run;
+    using run_walk = detail::run_walk<Type>;
+    using gap_walk = detail::gap_walk<Type>;
+    using member_walk = detail::member_walk<Type>;
+    using window_walk = detail::window_walk<Type>;
+    using refused_list = std::initializer_list<detail::plain_value<Type>>;
+    template <class... Arguments> static constexpr bool fits = (detail::always_fits<Type, Arguments> && ...);
+    template <class... Arguments> static constexpr bool asks = (detail::never_throws<Type, Arguments> && ...);
 
 public:
-    using run = range_set::run<Number>;
+    using run = range_set::run<Type>;
+    using element_type = Type;
+    using key_type = Type;
     using value_type = run;
     using reference = run;
     using const_reference = run;
     using size_type = std::uint64_t;
+    using rank_type = detail::rank_of<number_type>; // std::uint64_t, or range_set::uint128 for types of 128 bits
     using difference_type = std::ptrdiff_t;
     using iterator = detail::iterator<run_walk>;
     using const_iterator = iterator;
     using reverse_iterator = detail::iterator<detail::reversed<run_walk>>;
     using const_reverse_iterator = reverse_iterator;
+    using list = std::initializer_list<detail::item<Type>>; // values and runs in braces
 
     // ---- Construct, copy, move.
 
@@ -77,31 +98,51 @@ public:
     set() noexcept = default;
     ~set() { c::free(&handle_); }
 
-    // The members of the runs, which may overlap and come in any order: `a{{1, 5}, {10, 20}}`.
-    set(std::initializer_list<run> runs) : set(from_runs(runs.begin(), runs.size())) {}
+    // The values and the members of the runs, which may overlap and come in any order: `a{1, 2, 7}`,
+    // `a{{1, 5}, {10, 20}}`.
+    set(list items) : set() { assign(items.begin(), items.size()); }
 
-    // The members of the runs of an array, by one call of the C library.
-    template <class Count> static set from_runs(const run *runs, Count count) {
-        static_assert(sizeof(run) == sizeof(typename c::run), "the C library reads an array of runs");
-        set out;
-        changed(c::from_runs(&out.handle_, runs, detail::number_of<std::size_t>(count)));
-        return out;
-    }
-
-    // The members of one run.
-    explicit set(const run &members) : set() { insert(members); }
-
-    // The members of the runs, or the values, between two iterators or in a container.
-    template <class Iterator, class = typename std::iterator_traits<Iterator>::iterator_category>
-    set(Iterator from, Iterator to) : set() {
-        for (; from != to; ++from) {
-            insert(*from);
+    // The values from first to last, or what is between two iterators: values or runs.
+    template <class First, class Last, class = detail::if_bounds<Type, First, Last>>
+    set(const First &first, const Last &last) : set() {
+        if constexpr (detail::is_iterator<Type, First>) {
+            detail::gathered<Type> all;
+            all.add_between(first, last);
+            assign(all.runs(), all.size());
+        } else {
+            insert(run(first, last));
         }
     }
 
-    template <class Container, class = std::enable_if_t<!std::is_base_of_v<set, std::decay_t<Container>>>,
-              class = decltype(std::begin(std::declval<Container &>()))>
-    explicit set(Container &&members) : set(std::begin(members), std::end(members)) {}
+    // One value, the members of one run, or what is in a container or a range: values or runs.
+    template <class Given, class = detail::if_given<Type, set, Given>> explicit set(Given &&given) : set() {
+        detail::gathered<Type> all;
+        if constexpr (detail::is_range<Type, Given>) {
+            all.add_all(given);
+        } else {
+            all.add(given);
+        }
+        assign(all.runs(), all.size());
+    }
+
+    // The members of the runs of an array, by one call of the C library.
+    template <class Count> static set from_runs(const run *runs, Count count) {
+        const auto size = detail::checked<std::size_t>(count);
+        set out;
+        if constexpr (std::is_base_of_v<stored_run, run>) {
+            static_assert(sizeof(run) == sizeof(stored_run), "the C library reads an array of runs");
+            out.assign(runs, size);
+        } else {
+            detail::gathered<Type> all;
+            all.add_between(runs, runs + size);
+            out.assign(all.runs(), all.size());
+        }
+        return out;
+    }
+
+    // The same as the constructors.
+    template <class Range> static set from_runs(const Range &runs) { return set(runs); }
+    static set from_runs(list runs) { return set(runs); }
 
     set(const set &) = delete;            // a copy allocates: write b = a.clone(), not b = a
     set &operator=(const set &) = delete; // a copy allocates: write b = a.clone(), not b = a
@@ -122,58 +163,107 @@ public:
 
     // ---- Change. Each call returns whether it changed the set.
 
-    // Adds a value or a run. Does not allocate if there is nothing to add. For a run, does not allocate
-    // either if its first value, or the value before that, is a member.
-    template <class Value, class = detail::if_values<Value>> bool insert(Value value) {
-        return changed(c::insert(&handle_, number(value)));
+    // Adds a value, a run or a set. Does not allocate if there is nothing to add. For a run, does not
+    // allocate either if its first value, or the value before that, is a member.
+    template <class Added> bool insert(const Added &added) {
+        if constexpr (std::is_base_of_v<set, Added>) {
+            return changed(c::union_with(&handle_, &static_cast<const set &>(added).handle_));
+        } else if constexpr (detail::is_run<Type, Added>) {
+            const stored_run at = stored(added);
+            return changed(c::insert_range(&handle_, at.first, at.last));
+        } else if constexpr (detail::is_range<Type, Added>) {
+            static_assert(!detail::is_range<Type, Added>,
+                          "To insert what is in a container, write insert_range(container).");
+            return false;
+        } else {
+            return changed(c::insert(&handle_, number(added)));
+        }
     }
 
-    template <class First, class Last> bool insert(First first, Last last) { return insert(run(first, last)); }
-    bool insert(const run &added) { return changed(c::insert_range(&handle_, added.first, added.last)); }
+    bool insert(const set &added) { return insert<set>(added); }
+    bool insert(refused_list) = delete; // {1, 5} may mean a run or two values: write insert(1, 5), or insert({{1, 5}})
 
-    // Removes a value or a run. Does not allocate if there is nothing to remove. For a run, does not
-    // allocate either if the value after its last one is not a member or does not exist.
-    template <class Value, class = detail::if_values<Value>> bool remove(Value value) {
-        return changed(c::remove(&handle_, number(value)));
+    // Adds the values from first to last, or what is between two iterators.
+    template <class First, class Last> bool insert(const First &first, const Last &last) {
+        if constexpr (detail::is_iterator<Type, First>) {
+            return insert(set(first, last));
+        } else {
+            return insert(run(first, last));
+        }
     }
 
-    template <class First, class Last> bool remove(First first, Last last) { return remove(run(first, last)); }
-    bool remove(const run &removed) { return changed(c::remove_range(&handle_, removed.first, removed.last)); }
+    // Adds what is in a container or a range: values or runs.
+    template <class Range> bool insert_range(const Range &added) { return insert(set(added)); }
+
+    // Removes a value, a run or the members of a set. Does not allocate if there is nothing to remove. For a
+    // run, does not allocate either if the value after its last one is not a member or does not exist.
+    template <class Removed> bool remove(const Removed &removed) {
+        if constexpr (std::is_base_of_v<set, Removed>) {
+            return changed(c::subtract(&handle_, &static_cast<const set &>(removed).handle_));
+        } else if constexpr (detail::is_run<Type, Removed>) {
+            const stored_run at = stored(removed);
+            return changed(c::remove_range(&handle_, at.first, at.last));
+        } else if constexpr (detail::is_range<Type, Removed>) {
+            static_assert(!detail::is_range<Type, Removed>,
+                          "To remove what is in a container, write remove(set(container)).");
+            return false;
+        } else {
+            return changed(c::remove(&handle_, number(removed)));
+        }
+    }
+
+    bool remove(const set &removed) { return remove<set>(removed); }
+    bool remove(refused_list) = delete; // {1, 5} may mean a run or two values: write remove(1, 5), or remove({{1, 5}})
+    template <class First, class Last> bool remove(const First &first, const Last &last) {
+        return remove(run(first, last));
+    }
 
     // The same as remove.
-    template <class Value = run> bool erase(const Value &removed) { return remove(removed); }
-    template <class First, class Last> bool erase(First first, Last last) { return remove(first, last); }
+    template <class Removed> bool erase(const Removed &removed) { return remove(removed); }
+    bool erase(const set &removed) { return remove(removed); }
+    bool erase(refused_list) = delete; // {1, 5} may mean a run or two values: write erase(1, 5), or erase({{1, 5}})
+    template <class First, class Last> bool erase(const First &first, const Last &last) { return remove(first, last); }
+
+    // Removes the run of an iterator, and returns an iterator to the next run.
+    iterator erase(iterator at) {
+        changed(c::remove_range(&handle_, at.at_.first, at.at_.last));
+        return ++at;
+    }
 
     // Removes all members, but keeps a block of memory for later ones. Returns nothing.
     void clear() noexcept { c::clear(&handle_); }
 
     // ---- Set algebra: union, intersection, difference, symmetric difference and complement. The right
-    // operand is a set, a run or a value: `a - b`, `a | 3`, `a &= {1, 5}`, `a ^= {{1, 5}, {10, 20}}`.
+    // operand is a set, a run or a value: `a - b`, `a | 3`, `a &= range_set::run<int>(1, 5)`, `a ^= {{1, 5}}`.
 
     // These do not allocate if they change nothing.
     set &operator|=(const set &right) { return changed_by(c::union_with, right); }
     set &operator&=(const set &right) { return changed_by(c::intersect_with, right); }
     set &operator-=(const set &right) { return changed_by(c::subtract, right); }
     set &operator^=(const set &right) { return changed_by(c::xor_with, right); }
+    set &operator|=(refused_list) = delete; // {1, 5} may mean a run or two values: write a |= {{1, 5}}, or name a set
+    set &operator&=(refused_list) = delete; // {1, 5} may mean a run or two values: write a &= {{1, 5}}, or name a set
+    set &operator-=(refused_list) = delete; // {1, 5} may mean a run or two values: write a -= {{1, 5}}, or name a set
+    set &operator^=(refused_list) = delete; // {1, 5} may mean a run or two values: write a ^= {{1, 5}}, or name a set
 
     // With a run or a value at the right, `|=` inserts it and `-=` removes it. `&=` and `^=` first make a
     // set of it.
-    template <class Right = run, class = detail::if_run<Number, Right>> set &operator|=(const Right &right) {
+    template <class Right, class = detail::if_operand<Type, set, Right>> set &operator|=(const Right &right) {
         insert(right);
         return *this;
     }
 
-    template <class Right = run, class = detail::if_run<Number, Right>> set &operator-=(const Right &right) {
+    template <class Right, class = detail::if_operand<Type, set, Right>> set &operator-=(const Right &right) {
         remove(right);
         return *this;
     }
 
-    template <class Right = run, class = detail::if_run<Number, Right>> set &operator&=(const Right &right) {
-        return *this &= set(run(right));
+    template <class Right, class = detail::if_operand<Type, set, Right>> set &operator&=(const Right &right) {
+        return *this &= set(right);
     }
 
-    template <class Right = run, class = detail::if_run<Number, Right>> set &operator^=(const Right &right) {
-        return *this ^= set(run(right));
+    template <class Right, class = detail::if_operand<Type, set, Right>> set &operator^=(const Right &right) {
+        return *this ^= set(right);
     }
 
     // Each of these returns a new set, which is allocated.
@@ -181,22 +271,26 @@ public:
     friend set operator&(const set &left, const set &right) { return combined(c::both, left, right); }
     friend set operator-(const set &left, const set &right) { return combined(c::left_alone, left, right); }
     friend set operator^(const set &left, const set &right) { return combined(c::one_alone, left, right); }
-    set operator~() const { return made(c::complement); }
+    set operator~() const { return up_to_greatest(made(c::complement)); }
 
-    template <class Right, class = detail::if_run<Number, Right>> friend set operator|(const set &left, const Right &right) {
-        return left | set(run(right));
+    template <class Right, class = detail::if_operand<Type, set, Right>>
+    friend set operator|(const set &left, const Right &right) {
+        return left | set(right);
     }
 
-    template <class Right, class = detail::if_run<Number, Right>> friend set operator&(const set &left, const Right &right) {
-        return left & set(run(right));
+    template <class Right, class = detail::if_operand<Type, set, Right>>
+    friend set operator&(const set &left, const Right &right) {
+        return left & set(right);
     }
 
-    template <class Right, class = detail::if_run<Number, Right>> friend set operator-(const set &left, const Right &right) {
-        return left - set(run(right));
+    template <class Right, class = detail::if_operand<Type, set, Right>>
+    friend set operator-(const set &left, const Right &right) {
+        return left - set(right);
     }
 
-    template <class Right, class = detail::if_run<Number, Right>> friend set operator^(const set &left, const Right &right) {
-        return left ^ set(run(right));
+    template <class Right, class = detail::if_operand<Type, set, Right>>
+    friend set operator^(const set &left, const Right &right) {
+        return left ^ set(right);
     }
 
     // ---- Set algebra on any number of sets: in braces, as in `u64_set::union_of({a, b, c})`, or in a
@@ -219,7 +313,7 @@ public:
 
     // The values in all of the sets. If there are no sets, this is every value.
     template <class Sets = operands> static set intersection_of(const Sets &sets) {
-        return made_of(c::sets_intersection, sets);
+        return up_to_greatest(made_of(c::sets_intersection, sets));
     }
 
     // The values in an odd number of the sets.
@@ -229,7 +323,7 @@ public:
 
     // The values in at least k of the sets. If k is 0, this is every value.
     template <class Count, class Sets = operands> static set at_least(Count k, const Sets &sets) {
-        return made_of(c::sets_at_least, sets, detail::number_of<std::size_t>(k));
+        return up_to_greatest(made_of(c::sets_at_least, sets, detail::checked<std::size_t>(k)));
     }
 
     // ---- Go over a set in ascending order or, with rbegin and rend, in descending order. This ends for
@@ -247,22 +341,41 @@ public:
     reverse_iterator rbegin() const noexcept { return runs().rbegin(); }
     reverse_iterator rend() const noexcept { return runs().rend(); }
 
-    // A view of the runs, with begin, end, rbegin, rend and empty. Each view refers to its set and copies
-    // nothing. So a temporary set has no views: give it a name first.
+    // A view of the runs, with begin, end, rbegin, rend, empty and size. It is a view in C++20. Each view
+    // refers to its set and copies nothing. So a temporary set has no views: give it a name first.
     detail::view<run_walk> runs() const & noexcept { return detail::view<run_walk>(handle_); }
-    void runs() const && = delete; // the temporary set would end before its view does: give it a name first
+    detail::view<run_walk> runs() const && = delete; // the set would end before its view: give it a name first
 
     // The same as runs().
     detail::view<run_walk> ranges() const & noexcept { return runs(); }
-    void ranges() const && = delete; // the temporary set would end before its view does: give it a name first
+    detail::view<run_walk> ranges() const && = delete; // the set would end before its view: give it a name first
 
     // A view of the gaps, which are the runs of the complement.
     detail::view<gap_walk> gaps() const & noexcept { return detail::view<gap_walk>(handle_); }
-    void gaps() const && = delete; // the temporary set would end before its view does: give it a name first
+    detail::view<gap_walk> gaps() const && = delete; // the set would end before its view: give it a name first
 
     // A view of the members, one by one. Only a step to another run searches the set.
     detail::view<member_walk> members() const & noexcept { return detail::view<member_walk>(handle_); }
-    void members() const && = delete; // the temporary set would end before its view does: give it a name first
+    detail::view<member_walk> members() const && = delete; // the set would end before its view: give it a name first
+
+    // The same as members().
+    detail::view<member_walk> values() const & noexcept { return members(); }
+    detail::view<member_walk> values() const && = delete; // the set would end before its view: give it a name first
+
+    // A view of the runs of the members in a window, from its first to its last value. A run that crosses
+    // an end of the window is shortened to its part inside. The view has no size().
+    detail::view<window_walk> runs_in(const run &within) const & {
+        return detail::view<window_walk>(handle_, window_walk(stored(within)));
+    }
+
+    template <class First, class Last> detail::view<window_walk> runs_in(const First &first, const Last &last) const & {
+        return runs_in(run(first, last));
+    }
+
+    detail::view<window_walk>
+    runs_in(const run &) const && = delete; // the set would end too early: give it a name first
+    template <class First, class Last>
+    detail::view<window_walk> runs_in(const First &, const Last &) const && = delete; // see above: give it a name first
 
     // Calls `each` on each run, in ascending order.
     template <class Each> void runs(Each each) const {
@@ -273,41 +386,79 @@ public:
 
     // ---- Ask about values.
 
-    // Whether the value, or each value of the run, is a member.
-    template <class Value, class = detail::if_values<Value>> bool contains(Value value) const noexcept {
-        return detail::fits<Number>(value) && c::contains(&handle_, static_cast<Number>(value));
-    }
-
-    template <class First, class Last> bool contains(First first, Last last) const noexcept {
-        if (detail::fits<Number>(first) && detail::fits<Number>(last)) {
-            return c::contains_range(&handle_, static_cast<Number>(first), static_cast<Number>(last));
+    // Whether the value, each value of the run, or each member of the set, is a member.
+    template <class Asked> bool contains(const Asked &asked) const noexcept(asks<Asked>) {
+        if constexpr (std::is_base_of_v<set, Asked>) {
+            return is_superset(asked);
+        } else if constexpr (detail::is_run<Type, Asked>) {
+            const run values = asked;
+            return contains(values.first, values.last);
+        } else {
+            const auto at = detail::position_of<Type>(asked);
+            return at.side == 0 && c::contains(&handle_, c::to_c(at.number));
         }
-        return is_reversed(first, last);
     }
 
-    bool contains(const run &values) const noexcept { return c::contains_range(&handle_, values.first, values.last); }
+    bool contains(refused_list) const = delete; // {1, 5} may mean a run or two values: write contains(1, 5)
 
-    // Whether no value of the run is a member.
-    template <class First, class Last> bool is_disjoint(First first, Last last) const noexcept {
-        if (is_reversed(first, last) || detail::is_above<Number>(first) || detail::is_below<Number>(last)) {
+    // Whether each value from first to last is a member.
+    template <class First, class Last> bool contains(const First &first, const Last &last) const
+        noexcept(asks<First, Last>) {
+        const auto from = detail::position_of<Type>(first), to = detail::position_of<Type>(last);
+        if (from.side == 0 && to.side == 0) {
+            return c::contains_range(&handle_, c::to_c(from.number), c::to_c(to.number));
+        }
+        return detail::is_reversed<Type>(first, last, from, to);
+    }
+
+    // 1 if the value is a member, and 0 otherwise.
+    template <class Value> std::size_t count(const Value &value) const noexcept(asks<Value>) {
+        return contains(value) ? 1 : 0;
+    }
+
+    // Whether no member of this set is a value of the run, is the value, or is in the other set.
+    template <class Asked> bool is_disjoint(const Asked &asked) const noexcept(asks<Asked>) {
+        if constexpr (detail::is_run<Type, Asked>) {
+            const run values = asked;
+            return is_disjoint(values.first, values.last);
+        } else {
+            return !contains(asked);
+        }
+    }
+
+    bool is_disjoint(const set &other) const noexcept { return c::is_disjoint(&handle_, &other.handle_); }
+    bool is_disjoint(refused_list) const = delete; // {1, 5} may mean a run or two values: write is_disjoint(1, 5)
+
+    // Whether no value from first to last is a member.
+    template <class First, class Last> bool is_disjoint(const First &first, const Last &last) const
+        noexcept(asks<First, Last>) {
+        const auto from = detail::position_of<Type>(first), to = detail::position_of<Type>(last);
+        if (from.side > 0 || to.side < 0 || detail::is_reversed<Type>(first, last, from, to)) {
             return true;
         }
-        return c::is_disjoint_range(&handle_, detail::is_below<Number>(first) ? Number{0} : static_cast<Number>(first),
-                                    detail::is_above<Number>(last) ? detail::greatest<Number> : static_cast<Number>(last));
+        return c::is_disjoint_range(&handle_, c::to_c(from.side == 0 ? from.number : number_type{0}),
+                                    c::to_c(to.side == 0 ? to.number : greatest()));
     }
 
-    bool is_disjoint(const run &values) const noexcept { return c::is_disjoint_range(&handle_, values.first, values.last); }
+    // Whether some member of this set is a value of the run, is the value, or is in the other set.
+    template <class Asked> bool intersects(const Asked &asked) const noexcept(asks<Asked>) {
+        return !is_disjoint(asked);
+    }
+
+    bool intersects(const set &other) const noexcept { return !is_disjoint(other); }
+    bool intersects(refused_list) const = delete; // {1, 5} may mean a run or two values: write intersects(1, 5)
+    template <class First, class Last> bool intersects(const First &first, const Last &last) const
+        noexcept(asks<First, Last>) {
+        return !is_disjoint(first, last);
+    }
 
     // The least and the greatest member.
-    std::optional<Number> first() const noexcept {
-        Number value = 0;
-        return c::first(&handle_, &value) ? std::optional<Number>(value) : std::nullopt;
-    }
+    std::optional<Type> first() const noexcept(fits<Type>) { return member(c::first); }
+    std::optional<Type> last() const noexcept(fits<Type>) { return member(c::last); }
 
-    std::optional<Number> last() const noexcept {
-        Number value = 0;
-        return c::last(&handle_, &value) ? std::optional<Number>(value) : std::nullopt;
-    }
+    // The same, but these throw std::out_of_range if the set is empty.
+    Type front() const { return some(first()); }
+    Type back() const { return some(last()); }
 
     // ---- Count.
 
@@ -315,98 +466,140 @@ public:
     bool is_empty() const noexcept { return run_count() == 0; } // the same, under the name of range_set.h
     std::size_t run_count() const noexcept { return c::run_count(&handle_); }
 
-    // The number of members, not of runs. Throws std::overflow_error if it is 2^64.
+    // The number of members, not of runs. Throws std::overflow_error if it is 2^64 or more.
     std::uint64_t size() const { return range_set::count(len()).value(); }
 
-    // The number of members, and of those in a run: a range_set::count for std::uint64_t, since it may
-    // be 2^64, and a std::uint64_t for std::uint32_t. For a run, takes a step for each run in it.
+    // The number of members, and of those in a run: a std::uint64_t for types of up to 32 bits, and otherwise
+    // a range_set::count, since it may be 2^64 or more. For a run, takes a step for each run in it.
     auto len() const noexcept { return length(c::len(&handle_)); }
-    auto len(const run &values) const noexcept { return length(c::len_in(&handle_, values.first, values.last)); }
-    template <class First, class Last> auto len(First first, Last last) const noexcept(fits<First, Last>) {
+    auto len(const run &within) const noexcept(fits<Type>) {
+        const stored_run at = stored(within);
+        return length(c::len_in(&handle_, at.first, at.last));
+    }
+
+    template <class First, class Last> auto len(const First &first, const Last &last) const
+        noexcept(fits<First, Last>) {
         return len(run(first, last));
     }
 
     // The number of members below the value, which need not be a member. Takes a step for each run up to
     // it.
-    template <class Value> std::uint64_t rank(Value value) const noexcept(fits<Value>) {
-        return low(c::rank(&handle_, number(value)));
+    template <class Value> rank_type rank(const Value &value) const noexcept(fits<Value>) {
+        return detail::as_rank(c::rank(&handle_, number(value)));
     }
 
     // The member with n members below it. Takes a step for each run up to it.
-    template <class Count> std::optional<Number> nth(Count n) const noexcept(detail::always_fits<std::uint64_t, Count>) {
-        Number value = 0;
-        bool exists = c::nth(&handle_, detail::number_of<std::uint64_t>(n), &value);
-        return exists ? std::optional<Number>(value) : std::nullopt;
+    template <class Count> std::optional<Type> nth(Count n) const noexcept(detail::always_fits<rank_type, Count>) {
+        const auto place = detail::calls<rank_type>::to_c(detail::checked<rank_type>(n));
+        return member([place](const auto *handle, auto *value) { return c::nth(handle, place, value); });
     }
 
     // ---- Search.
 
+    // An iterator over runs: to the run that contains the value, or the end.
+    template <class Value> iterator find(const Value &value) const noexcept(asks<Value>) {
+        const auto at = detail::position_of<Type>(value);
+        iterator found = end();
+        found.inside_ = at.side == 0 && c::run_or_gap(&handle_, c::to_c(at.number), &found.at_);
+        return found;
+    }
+
+    // An iterator over runs: to the run that contains the value or otherwise the first run after it, or to
+    // the first run that starts after the value; or the end. They are the ends of the runs that a window
+    // meets: from lower_bound of its first value to upper_bound of its last one.
+    template <class Value> iterator lower_bound(const Value &value) const noexcept(asks<Value>) {
+        return bound(c::next_run, detail::position_of<Type>(value));
+    }
+
+    template <class Value> iterator upper_bound(const Value &value) const noexcept(asks<Value>) {
+        return bound(c::run_after, detail::position_of<Type>(value));
+    }
+
     // The run that contains the value, and true; or the gap that contains it, and false.
-    template <class Value> std::pair<run, bool> run_or_gap(Value value) const noexcept(fits<Value>) {
-        run block;
-        bool member = c::run_or_gap(&handle_, number(value), &block);
-        return {block, member};
+    template <class Value> std::pair<run, bool> run_or_gap(const Value &value) const noexcept(fits<Value>) {
+        stored_run block;
+        const bool is_run = c::run_or_gap(&handle_, number(value), &block);
+        gap_walk::clip(block);
+        return {run_walk::run_of(block), is_run};
     }
 
     // The run that contains the value, or otherwise the first run after it or the last run before it.
-    template <class Value> std::optional<run> next_run(Value from) const noexcept(fits<Value>) {
+    template <class Value> std::optional<run> next_run(const Value &from) const noexcept(fits<Value>) {
         return found(c::next_run, number(from));
     }
 
-    template <class Value> std::optional<run> prev_run(Value from) const noexcept(fits<Value>) {
+    template <class Value> std::optional<run> prev_run(const Value &from) const noexcept(fits<Value>) {
         return found(c::prev_run, number(from));
     }
 
     // The first run that starts after the value, or the last run that ends before it.
-    template <class Value> std::optional<run> run_after(Value value) const noexcept(fits<Value>) {
+    template <class Value> std::optional<run> run_after(const Value &value) const noexcept(fits<Value>) {
         return found(c::run_after, number(value));
     }
 
-    template <class Value> std::optional<run> run_before(Value value) const noexcept(fits<Value>) {
+    template <class Value> std::optional<run> run_before(const Value &value) const noexcept(fits<Value>) {
         return found(c::run_before, number(value));
     }
 
     // The run with the least members, and the run with the greatest members.
-    std::optional<run> first_run() const noexcept { return found(c::next_run, 0); }
-    std::optional<run> last_run() const noexcept { return found(c::prev_run, detail::greatest<Number>); }
+    std::optional<run> first_run() const noexcept(fits<Type>) { return found(c::next_run, run_walk::least()); }
+    std::optional<run> last_run() const noexcept(fits<Type>) { return found(c::prev_run, run_walk::greatest()); }
 
     // The gap that contains the value, or otherwise the first gap after it or the last gap before it.
-    template <class Value> std::optional<run> next_gap(Value from) const noexcept(fits<Value>) {
+    template <class Value> std::optional<run> next_gap(const Value &from) const noexcept(fits<Value>) {
         return found(c::next_gap, number(from));
     }
 
-    template <class Value> std::optional<run> prev_gap(Value from) const noexcept(fits<Value>) {
+    template <class Value> std::optional<run> prev_gap(const Value &from) const noexcept(fits<Value>) {
         return found(c::prev_gap, number(from));
     }
 
     // The first gap that starts after the value, or the last gap that ends before it.
-    template <class Value> std::optional<run> gap_after(Value value) const noexcept(fits<Value>) {
+    template <class Value> std::optional<run> gap_after(const Value &value) const noexcept(fits<Value>) {
         return found(c::gap_after, number(value));
     }
 
-    template <class Value> std::optional<run> gap_before(Value value) const noexcept(fits<Value>) {
+    template <class Value> std::optional<run> gap_before(const Value &value) const noexcept(fits<Value>) {
         return found(c::gap_before, number(value));
     }
 
     // Stores the runs of the members between the ends of `within` in an array, in ascending order, until
     // `count` of them are stored or none is left, and returns how many it stored. A run that crosses an end
     // is shortened to its part between the ends. The rest of the array is unchanged. The call searches the
-    // set once for the whole array, so it reads many runs faster than an iterator does.
-    template <class Count>
-    std::size_t runs_in(const run &within, run *stored, Count count) const
-        noexcept(detail::always_fits<std::size_t, Count>) {
-        static_assert(sizeof(run) == sizeof(typename c::run), "the C library writes an array of runs");
-        return c::runs_in(&handle_, within.first, within.last, stored, detail::number_of<std::size_t>(count));
+    // set once for many runs, so it reads them faster than an iterator does.
+    template <class Count> std::size_t runs_in(const run &within, run *runs, Count count) const
+        noexcept(fits<Type> && detail::always_fits<std::size_t, Count>) {
+        const auto size = detail::checked<std::size_t>(count);
+        if constexpr (std::is_base_of_v<stored_run, run>) {
+            static_assert(sizeof(run) == sizeof(stored_run), "the C library writes an array of runs");
+            return c::runs_in(&handle_, within.first, within.last, runs, size);
+        } else {
+            return detail::copy_runs<Type>(handle_, stored(within), runs, size);
+        }
+    }
+
+    // The first run with at least `len` members at or after `from`, without its part before `from`. Takes a
+    // step for each run between them. In the set of what is free, this finds room.
+    template <class Value, class Count> std::optional<run> first_run_of(const Value &from, Count len) const
+        noexcept(fits<Value> && detail::always_fits<rank_type, Count>) {
+        const auto wanted = detail::calls<rank_type>::to_c(detail::checked<rank_type>(len));
+        stored_run at;
+        const bool exists = c::first_run_of(&handle_, number(from), wanted, &at);
+        return exists ? std::optional<run>(run_walk::run_of(at)) : std::nullopt;
     }
 
     // The first gap with at least `len` values at or after `from`, without its part before `from`. Takes
     // a step for each run between them.
-    template <class Value, class Count>
-    std::optional<run> first_gap(Value from, Count len) const
-        noexcept(fits<Value> && detail::always_fits<std::uint64_t, Count>) {
-        run gap;
-        bool exists = c::first_gap(&handle_, number(from), detail::number_of<std::uint64_t>(len), &gap);
-        return exists ? std::optional<run>(gap) : std::nullopt;
+    template <class Value, class Count> std::optional<run> first_gap(const Value &from, Count len) const
+        noexcept(fits<Value> && detail::always_fits<rank_type, Count>) {
+        const auto wanted = detail::checked<rank_type>(len);
+        stored_run gap;
+        if (!c::first_gap(&handle_, number(from), detail::calls<rank_type>::to_c(wanted), &gap) ||
+            !gap_walk::clip(gap)) {
+            return std::nullopt;
+        }
+        const bool is_short = wanted > 0 && c::from_c(gap.last) - c::from_c(gap.first) < wanted - 1;
+        return is_short ? std::nullopt : std::optional<run>(run_walk::run_of(gap));
     }
 
     // ---- Compare.
@@ -415,15 +608,14 @@ public:
     bool is_subset(const set &other) const noexcept { return c::is_subset(&handle_, &other.handle_); }
     bool is_superset(const set &other) const noexcept { return other.is_subset(*this); }
 
-    // Whether no member of this set is in the other one.
-    bool is_disjoint(const set &other) const noexcept { return c::is_disjoint(&handle_, &other.handle_); }
-
     // A number below 0, equal to 0 or above 0. Sets compare as the ascending lists of their members do,
     // here and with <, <=, > and >=. A subset need not be less.
     int order(const set &other) const noexcept { return c::order(&handle_, &other.handle_); }
 
     // Whether both have the same members.
-    friend bool operator==(const set &left, const set &right) noexcept { return c::equal(&left.handle_, &right.handle_); }
+    friend bool operator==(const set &left, const set &right) noexcept {
+        return c::equal(&left.handle_, &right.handle_);
+    }
 
     friend bool operator!=(const set &left, const set &right) noexcept { return !(left == right); }
     friend bool operator<(const set &left, const set &right) noexcept { return left.order(right) < 0; }
@@ -431,7 +623,10 @@ public:
     friend bool operator>(const set &left, const set &right) noexcept { return left.order(right) > 0; }
     friend bool operator>=(const set &left, const set &right) noexcept { return left.order(right) >= 0; }
 
-    // Writes the runs, as in `1..=5, 10..=20`, or nothing for the empty set. Include <ostream> to use it.
+    // ---- Text: the runs, as in `1..=5, 10..=20`, or nothing for the empty set. Characters are numbers in it.
+    // Other values than integers and characters are written by their own <<, and not read.
+
+    // Include <ostream> to use it.
     template <class Char, class Traits>
     friend std::basic_ostream<Char, Traits> &operator<<(std::basic_ostream<Char, Traits> &out, const set &written) {
         const char *before = "";
@@ -442,26 +637,86 @@ public:
         return out;
     }
 
+    // Returns the text. Without <ostream>, only sets of integers and characters have one.
+    std::string to_text() const {
+        static_assert(detail::is_read<Type> || !detail::is_element<Type>,
+                      "to_text writes integers and characters: use <<");
+        std::string text;
+        if constexpr (detail::is_read<Type>) {
+            using digits = detail::digits<detail::number_in_text<Type>>;
+            for (const auto &[first, last] : *this) {
+                text.append(text.empty() ? "" : ", ")
+                    .append(digits(first).view())
+                    .append("..=")
+                    .append(digits(last).view());
+            }
+        }
+        return text;
+    }
+
+    // Returns the set that a text lists: runs and single values in any order, as in `7, 10..=20, 15..=30`.
+    // Throws std::invalid_argument if the text does not list runs of this type.
+    static set parse(std::string_view text) {
+        std::size_t unexpected = 0;
+        std::optional<set> read = try_parse(text, &unexpected);
+        if (!read) {
+            RANGE_SET_THROW(std::invalid_argument(
+                "range_set: the text lists no runs of this type: it is wrong at byte " + std::to_string(unexpected)));
+        }
+        return std::move(*read);
+    }
+
+    // The same, under the name of range_set.h.
+    static set from_text(std::string_view text) { return parse(text); }
+
+    // The same, but returns nothing if the text does not list runs, and stores the position of the first
+    // unexpected byte, or the length of the text if it ends too early.
+    static std::optional<set> try_parse(std::string_view text, std::size_t *unexpected = nullptr) {
+        detail::reader<Type> reader(text);
+        std::vector<stored_run> runs;
+        if (!reader.read(runs)) {
+            if (unexpected != nullptr) {
+                *unexpected = reader.at();
+            }
+            return std::nullopt;
+        }
+        std::optional<set> made(std::in_place);
+        made->assign(runs.data(), runs.size());
+        return made;
+    }
+
+    // Reads a line, which lists runs as above. If it does not, sets failbit and leaves the set unchanged.
+    // Include <istream> to use it.
+    template <class Traits>
+    friend std::basic_istream<char, Traits> &operator>>(std::basic_istream<char, Traits> &in, set &read) {
+        std::basic_string<char, Traits> line;
+        if (std::getline(in, line)) {
+            std::optional<set> made = try_parse(std::string_view(line.data(), line.size()));
+            if (made) {
+                read = std::move(*made);
+            } else {
+                in.setstate(in.failbit);
+            }
+        }
+        return in;
+    }
+
 private:
-    template <class Argument> static constexpr Number number(Argument argument) noexcept(fits<Argument>) {
-        return detail::number_of<Number>(argument);
+    friend struct std::hash<set>;
+
+    static number_type greatest() noexcept { return detail::ranked<Type>::greatest(); }
+
+    template <class Argument>
+    static constexpr typename c::value number(const Argument &argument) noexcept(fits<Argument>) {
+        return c::to_c(detail::checked<Type>(argument));
     }
 
-    static count length(rsb_u64_count members) noexcept { return members; }
+    static constexpr stored_run stored(const run &given) noexcept(fits<Type>) {
+        return {number(given.first), number(given.last)};
+    }
+
+    static range_set::count length(const range_set::count &members) noexcept { return members; }
     static std::uint64_t length(std::uint64_t members) noexcept { return members; }
-    static std::uint64_t low(rsb_u64_count members) noexcept { return members.low; }
-    static std::uint64_t low(std::uint64_t members) noexcept { return members; }
-
-    // Whether the last value is below the first one.
-    template <class First, class Last> static constexpr bool is_reversed(First first, Last last) noexcept {
-        if (detail::is_below<Number>(first) && detail::is_below<Number>(last)) {
-            return static_cast<long long>(last) < static_cast<long long>(first);
-        }
-        if (detail::is_below<Number>(first) || detail::is_below<Number>(last)) {
-            return detail::is_below<Number>(last);
-        }
-        return static_cast<unsigned long long>(last) < static_cast<unsigned long long>(first);
-    }
 
     static bool changed(std::uint32_t answer) {
         if (answer == RSB_NO_MEMORY) {
@@ -470,9 +725,44 @@ private:
         return answer == RSB_CHANGED;
     }
 
-    template <class Call> std::optional<run> found(Call call, Number value) const noexcept {
-        run at;
-        return call(&handle_, value, &at) ? std::optional<run>(at) : std::nullopt;
+    // Makes this set, which is empty, that of an array of runs.
+    void assign(const stored_run *runs, std::size_t size) { changed(c::from_runs(&handle_, runs, size)); }
+
+    // Removes the numbers above the greatest value, which needs no memory.
+    static set up_to_greatest(set given) {
+        if (greatest() != detail::greatest_of<number_type>()) {
+            const auto beyond = static_cast<number_type>(greatest() + 1);
+            changed(c::remove_range(&given.handle_, c::to_c(beyond), c::to_c(detail::greatest_of<number_type>())));
+        }
+        return given;
+    }
+
+    template <class Call> std::optional<run> found(Call call, typename c::value number) const {
+        stored_run at;
+        const bool exists = call(&handle_, number, &at) && gap_walk::clip(at);
+        return exists ? std::optional<run>(run_walk::run_of(at)) : std::nullopt;
+    }
+
+    template <class Call> std::optional<Type> member(Call call) const {
+        typename c::value value{};
+        const bool exists = call(&handle_, &value);
+        return exists ? std::optional<Type>(run_walk::value_of(value)) : std::nullopt;
+    }
+
+    static Type some(const std::optional<Type> &value) {
+        if (!value) {
+            RANGE_SET_THROW(std::out_of_range("range_set: the set is empty"));
+        }
+        return *value;
+    }
+
+    template <class Call> iterator bound(Call call, detail::position<Type> at) const noexcept {
+        if (at.side < 0) {
+            return begin();
+        }
+        iterator found = end();
+        found.inside_ = at.side == 0 && call(&handle_, c::to_c(at.number), &found.at_);
+        return found;
     }
 
     template <class Call> set made(Call call) const {
@@ -493,17 +783,17 @@ private:
     }
 
     // Copies of sets, in a list of the C library.
-    struct list {
+    struct copied_sets {
         typename c::list copies{};
 
-        list() noexcept = default;
-        list(const list &) = delete;
-        list &operator=(const list &) = delete;
-        ~list() { c::sets_free(&copies); }
+        copied_sets() noexcept = default;
+        copied_sets(const copied_sets &) = delete;
+        copied_sets &operator=(const copied_sets &) = delete;
+        ~copied_sets() { c::sets_free(&copies); }
     };
 
     template <class Call, class Sets, class... Count> static set made_of(Call call, const Sets &sets, Count... k) {
-        list all;
+        copied_sets all;
         for (const set &each : sets) {
             changed(c::sets_add(&all.copies, &each.handle_));
         }
@@ -515,22 +805,44 @@ private:
     typename c::handle handle_{};
 };
 
+// The type of a set from values in braces: `set{1, 2, 3}` is a set of int.
+template <class First, class... Others,
+          class = std::enable_if_t<detail::is_element<First> && (std::is_same_v<First, Others> && ...)>>
+set(First, Others...) -> set<First>;
+template <class Type> set(const run<Type> &) -> set<Type>;
+
 using u64_set = set<std::uint64_t>;
 using u32_set = set<std::uint32_t>;
+using i64_set = set<std::int64_t>;
+using i32_set = set<std::int32_t>;
+#ifdef RANGE_SET_HAS_128
+using u128_set = set<uint128>;
+using i128_set = set<int128>;
+#endif
 
 } // namespace range_set
 
 // Equal sets have equal hashes. Takes a step for each run.
-template <class Number> struct std::hash<range_set::set<Number>> {
-    std::size_t operator()(const range_set::set<Number> &hashed) const noexcept {
+template <class Type> struct std::hash<range_set::set<Type>> {
+    std::size_t operator()(const range_set::set<Type> &hashed) const noexcept {
+        using c = typename range_set::set<Type>::c;
         std::uint64_t mixed = 1;
-        for (auto [first, last] : hashed) {
-            mixed = mix(mix(mixed + first) + last);
+        typename c::run at;
+        for (bool more = c::next_run(&hashed.handle_, c::to_c(0), &at); more;
+             more = c::run_after(&hashed.handle_, at.last, &at)) {
+            mixed = with(with(mixed, c::from_c(at.first)), c::from_c(at.last));
         }
         return static_cast<std::size_t>(mixed);
     }
 
 private:
+    template <class Number> static std::uint64_t with(std::uint64_t mixed, Number number) noexcept {
+        if constexpr (sizeof(Number) > sizeof mixed) {
+            mixed = mix(mixed + static_cast<std::uint64_t>(number >> 64));
+        }
+        return mix(mixed + static_cast<std::uint64_t>(number));
+    }
+
     static std::uint64_t mix(std::uint64_t bits) noexcept {
         bits = (bits ^ (bits >> 31)) * 0x9e3779b97f4a7c15;
         return bits ^ (bits >> 29);
@@ -539,7 +851,7 @@ private:
 
 #if __cplusplus > 201703L && defined(__cpp_lib_ranges)
 // A set goes over its runs, and size() counts its members. So std::ranges::size must not call size().
-template <class Number> inline constexpr bool std::ranges::disable_sized_range<range_set::set<Number>> = true;
+template <class Type> inline constexpr bool std::ranges::disable_sized_range<range_set::set<Type>> = true;
 template <class Walk> inline constexpr bool std::ranges::enable_view<range_set::detail::view<Walk>> = true;
 template <class Walk> inline constexpr bool std::ranges::enable_borrowed_range<range_set::detail::view<Walk>> = true;
 #endif

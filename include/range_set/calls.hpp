@@ -1,17 +1,33 @@
-// The functions of range_set.h, by the type of the values. Only the class in range_set.hpp uses them.
+// The functions of range_set.h, by the width of the numbers. Only the class in range_set.hpp uses them.
 #ifndef RANGE_SET_CALLS_HPP
 #define RANGE_SET_CALLS_HPP
 
 #include "../range_set.h"
-
-#include <cstdint>
+#include "numbers.hpp"
 
 namespace range_set::detail {
 
+// How C has a number: as itself, or as two halves.
+template <class Number> struct as_itself {
+    using value = Number;
+    static constexpr value to_c(Number number) noexcept { return number; }
+    static constexpr Number from_c(value number) noexcept { return number; }
+};
+
+#ifdef RANGE_SET_HAS_128
+struct as_halves {
+    using value = rsb_u128_value;
+    static constexpr value to_c(uint128 number) noexcept {
+        return {static_cast<std::uint64_t>(number), static_cast<std::uint64_t>(number >> 64)};
+    }
+    static constexpr uint128 from_c(value number) noexcept { return uint128{number.high} << 64 | number.low; }
+};
+#endif
+
 // The functions for one width. They have the names of range_set.h, except `either` (union), `both`
 // (intersection), `left_alone` (difference) and `one_alone` (symmetric_difference).
-#define RANGE_SET_CALLS(number, width)                                                                                     \
-    template <> struct calls<number> {                                                                                     \
+#define RANGE_SET_CALLS(number, width, numbers)                                                                            \
+    template <> struct calls<number> : numbers {                                                                           \
         using handle = rsb_##width;                                                                                        \
         using list = rsb_##width##_sets;                                                                                   \
         using run = rsb_##width##_run;                                                                                     \
@@ -42,6 +58,7 @@ namespace range_set::detail {
         static constexpr auto run_before = rsb_##width##_run_before;                                                       \
         static constexpr auto runs_in = rsb_##width##_runs_in;                                                             \
         static constexpr auto first_gap = rsb_##width##_first_gap;                                                         \
+        static constexpr auto first_run_of = rsb_##width##_first_run_of;                                                   \
         static constexpr auto next_gap = rsb_##width##_next_gap;                                                           \
         static constexpr auto prev_gap = rsb_##width##_prev_gap;                                                           \
         static constexpr auto gap_after = rsb_##width##_gap_after;                                                         \
@@ -66,8 +83,11 @@ namespace range_set::detail {
     }
 
 template <class Number> struct calls;
-RANGE_SET_CALLS(std::uint64_t, u64);
-RANGE_SET_CALLS(std::uint32_t, u32);
+RANGE_SET_CALLS(std::uint32_t, u32, as_itself<std::uint32_t>);
+RANGE_SET_CALLS(std::uint64_t, u64, as_itself<std::uint64_t>);
+#ifdef RANGE_SET_HAS_128
+RANGE_SET_CALLS(uint128, u128, as_halves);
+#endif
 #undef RANGE_SET_CALLS
 
 } // namespace range_set::detail

@@ -1,4 +1,4 @@
-// Allocations that fail: the linker sends the library's calls of malloc and realloc here.
+// Allocations that fail: the linker sends the library's calls of malloc and realloc here, and so go those of `new`.
 #ifndef FAILURES_HPP
 #define FAILURES_HPP
 
@@ -24,13 +24,23 @@ static bool refuses() {
     return allowed == 0;
 }
 
-void *wrap_malloc(std::size_t size) {
-    return refuses() ? nullptr : real_malloc(size);
+void *wrap_malloc(std::size_t size) { return refuses() ? nullptr : real_malloc(size); }
+
+void *wrap_realloc(void *block, std::size_t size) { return refuses() ? nullptr : real_realloc(block, size); }
+
+void operator delete(void *block, std::size_t) noexcept;
+
+[[gnu::noinline]] void *operator new(std::size_t size) {
+    void *block = refuses() ? nullptr : real_malloc(size);
+    if (block == nullptr) {
+        throw std::bad_alloc();
+    }
+    return block;
 }
 
-void *wrap_realloc(void *block, std::size_t size) {
-    return refuses() ? nullptr : real_realloc(block, size);
-}
+[[gnu::noinline]] void operator delete(void *block) noexcept { std::free(block); }
+
+[[gnu::noinline]] void operator delete(void *block, std::size_t) noexcept { std::free(block); }
 
 // Calls until no allocation fails: at first none succeeds, then one, and so on. After each failure,
 // `a` and `b` must be as they were. Returns the number of failures.

@@ -9,9 +9,7 @@
 
 static std::jmp_buf before_the_call;
 
-[[noreturn]] static void aborted(int) {
-    std::longjmp(before_the_call, 1);
-}
+[[noreturn]] static void aborted(int) { std::longjmp(before_the_call, 1); }
 
 template <class Call> static void aborts(Call call) {
     std::signal(SIGABRT, aborted);
