@@ -1,4 +1,5 @@
-/* Sets as bytes, in the format of docs/FORMAT.md. range_set.h includes this file.
+/* Sets as bytes, in the format of docs/FORMAT.md. range_set.h includes this file, and i64.h and its like have the same
+ * calls for signed numbers.
  *
  * Equal sets of a width have equal bytes, and different ones different bytes, on every machine. */
 #ifndef RANGE_SET_BYTES_H

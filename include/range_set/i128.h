@@ -249,6 +249,14 @@ RSB_INLINE void rsb_i128_sets_free(rsb_i128_sets *list) {
     rsb_u128_sets_free(&list->rsb_private);
 }
 
+RSB_NODISCARD RSB_INLINE uint32_t rsb_i128_to_bytes(const rsb_i128 *set, unsigned char *buffer, size_t capacity, size_t *length) {
+    return rsb_u128_to_bytes(&set->rsb_private, buffer, capacity, length);
+}
+
+RSB_NODISCARD RSB_INLINE uint32_t rsb_i128_from_bytes(rsb_i128 *out, const unsigned char *bytes, size_t length, size_t *position, uint32_t *reason) {
+    return rsb_u128_from_bytes(&out->rsb_private, bytes, length, position, reason);
+}
+
 #include "i128_arrays.h"
 #include "i128_many.h"
 #include "i128_text.h"

@@ -249,6 +249,14 @@ RSB_INLINE void rsb_i32_sets_free(rsb_i32_sets *list) {
     rsb_u32_sets_free(&list->rsb_private);
 }
 
+RSB_NODISCARD RSB_INLINE uint32_t rsb_i32_to_bytes(const rsb_i32 *set, unsigned char *buffer, size_t capacity, size_t *length) {
+    return rsb_u32_to_bytes(&set->rsb_private, buffer, capacity, length);
+}
+
+RSB_NODISCARD RSB_INLINE uint32_t rsb_i32_from_bytes(rsb_i32 *out, const unsigned char *bytes, size_t length, size_t *position, uint32_t *reason) {
+    return rsb_u32_from_bytes(&out->rsb_private, bytes, length, position, reason);
+}
+
 #include "i32_arrays.h"
 #include "i32_many.h"
 #include "i32_text.h"

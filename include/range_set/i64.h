@@ -249,6 +249,14 @@ RSB_INLINE void rsb_i64_sets_free(rsb_i64_sets *list) {
     rsb_u64_sets_free(&list->rsb_private);
 }
 
+RSB_NODISCARD RSB_INLINE uint32_t rsb_i64_to_bytes(const rsb_i64 *set, unsigned char *buffer, size_t capacity, size_t *length) {
+    return rsb_u64_to_bytes(&set->rsb_private, buffer, capacity, length);
+}
+
+RSB_NODISCARD RSB_INLINE uint32_t rsb_i64_from_bytes(rsb_i64 *out, const unsigned char *bytes, size_t length, size_t *position, uint32_t *reason) {
+    return rsb_u64_from_bytes(&out->rsb_private, bytes, length, position, reason);
+}
+
 #include "i64_arrays.h"
 #include "i64_many.h"
 #include "i64_text.h"

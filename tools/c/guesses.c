@@ -69,6 +69,23 @@ static void temperatures(void) {
     rsb_i64_free(&seen);
 }
 
+/* A set below zero in a file: its bytes are those that docs/FORMAT.md shows, and are read back as the same set. */
+static void kept(void) {
+    static const unsigned char wanted[] = "\xF5RSB\x01\x40\x01\xFF\xFF\xFF\xFF\xFF\xFF\xFF\xFF\x7F\xAD\x02";
+    rsb_i64 seen = RSB_EMPTY, read = RSB_EMPTY;
+    unsigned char bytes[64];
+    size_t length, position;
+    uint32_t reason;
+    CHECK(rsb_i64_insert_range(&seen, -1, 300) == RSB_CHANGED);
+    CHECK(rsb_i64_to_bytes(&seen, bytes, sizeof bytes, &length) == RSB_CHANGED);
+    CHECK(length == sizeof wanted - 1 && memcmp(bytes, wanted, length) == 0);
+    CHECK(rsb_i64_from_bytes(&read, bytes, length, &position, &reason) == RSB_CHANGED && rsb_i64_equal(&read, &seen));
+    CHECK(rsb_i64_from_bytes(&read, bytes, 9, &position, &reason) == RSB_BAD_BYTES);
+    CHECK(position == 9 && reason == RSB_CUT_SHORT && rsb_i64_equal(&read, &seen));
+    rsb_i64_free(&seen);
+    rsb_i64_free(&read);
+}
+
 static void addresses(void) {
     rsb_u128 routed = RSB_EMPTY;
     rsb_u128_value network = RSB_U128(UINT64_C(0x20010db800000000), 0);
@@ -84,6 +101,7 @@ int main(void) {
     blocks();
     ports();
     temperatures();
+    kept();
     addresses();
     puts("programs in their short form run");
     return 0;

@@ -71,7 +71,7 @@ def wrapper(kind, declaration):
         if re.match(rf"(const )?rsb_{unsigned}(_sets)? \*", type_of):
             taken.append(parameter.replace(unsigned, kind))
             passed.append(f"&{word}->rsb_private")
-        elif type_of == f"rsb_{unsigned}_run *" or type_of == f"{KINDS[unsigned][0]} *":
+        elif type_of == f"rsb_{unsigned}_run *" or (type_of == f"{KINDS[unsigned][0]} *" and word != "reason"):
             taken.append(f"rsb_{kind}_run *{word}" if "_run" in type_of else f"{value} *{word}")
             place = (type_of[:-2], word, "run_out" if "_run" in type_of else "out")
             passed.append("&found")
@@ -105,6 +105,7 @@ def signed_headers(text, read):
     written = {}
     for kind, unsigned in SIGNED.items():
         lines = declarations(text) if unsigned == "u64" else declared(text, unsigned)
+        lines += "".join(line for line in read(f"{FOLDER}/bytes.h").splitlines(True) if f" rsb_{unsigned}_" in line)
         wrappers = [wrapper(kind, found) for found in DECLARATION.finditer(lines) if found[3] not in ARRAYS]
         value, least, greatest, *_ = KINDS[kind]
         written[f"{FOLDER}/{kind}.h"] = FRAME.format(kind=kind, unsigned=unsigned, name=kind.upper(), value=value, least=least,

@@ -177,6 +177,14 @@ RSB_INLINE void wide_i128_sets_free(rsb_i128_sets *list) {
     rsb_i128_sets_free(list);
 }
 
+RSB_NODISCARD RSB_INLINE uint32_t wide_i128_to_bytes(const rsb_i128 *set, unsigned char *buffer, size_t capacity, size_t *length) {
+    return rsb_i128_to_bytes(set, buffer, capacity, length);
+}
+
+RSB_NODISCARD RSB_INLINE uint32_t wide_i128_from_bytes(rsb_i128 *out, const unsigned char *bytes, size_t length, size_t *position, uint32_t *reason) {
+    return rsb_i128_from_bytes(out, bytes, length, position, reason);
+}
+
 RSB_NODISCARD RSB_INLINE uint32_t wide_i128_to_text(const rsb_i128 *set, char *buffer, size_t capacity, size_t *length) {
     return rsb_i128_to_text(set, buffer, capacity, length);
 }
