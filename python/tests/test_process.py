@@ -8,6 +8,7 @@ import subprocess
 import sys
 import tempfile
 import threading
+import tracemalloc
 import unittest
 import weakref
 from pathlib import Path
@@ -188,6 +189,21 @@ class Allocations(unittest.TestCase):
         gc.collect()
         self.assertIsNone(seen())
         self.assertLess(sys.getrefcount(Named) - before, 5)
+
+    def test_calls_keep_no_memory(self):
+        for kind in KINDS:
+            made, values = kind.made([kind.least]), [kind.value(kind.least + 300 + 2 * at) for at in range(50)]
+            use_each_call(made, values, kind)
+            tracemalloc.start()
+            self.addCleanup(tracemalloc.stop)
+            use_each_call(made, values, kind)
+            gc.collect()
+            before = tracemalloc.get_traced_memory()[0]
+            for _ in range(30):
+                use_each_call(made, values, kind)
+            gc.collect()
+            self.assertLess(tracemalloc.get_traced_memory()[0] - before, 40_000, kind.name)
+            tracemalloc.stop()
 
     def test_references(self):
         """No call keeps or drops a reference too many to a value, a class or an element."""
