@@ -142,8 +142,8 @@ def single_calls():
     yield "s.add(v), of a member", len(values), lambda: each_added(made, known), lambda: each_added(plain, known)
     fresh = list(range(0, 200_000, 2))
     yield "s.add(v), of a new value", len(fresh), lambda: each_added(RangeSet(), fresh), lambda: each_added(set(), fresh)
-    yield "a step over values", 100 * len(members), lambda: [walked(made) for _ in range(100)], lambda: [walked(plain) for _ in range(100)]
-    yield "a step over runs", 100 * len(runs), lambda: [walked(made.runs()) for _ in range(100)], None
+    yield "a step over values", len(members), lambda: walked(made), lambda: walked(plain)
+    yield "a step over runs", len(runs), lambda: walked(made.runs()), None
     yield "the loop itself", len(values), lambda: walked(values), None
 
 

@@ -38,7 +38,8 @@ Summary: Sets of ints, dates and addresses as sorted ranges, over a proved libra
 License: Apache-2.0 OR MIT
 Requires-Python: >=3.8
 """
-FLAGS = "-std=c11 -O2 -fPIC -fvisibility=hidden -shared -DPy_LIMITED_API=0x03080000 -Wl,--exclude-libs,ALL -Wl,-z,relro,-z,now".split()
+FLAGS = "-std=c11 -O2 -fPIC -fvisibility=hidden -shared -DPy_LIMITED_API=0x03080000".split()
+FLAGS += "-Wl,--exclude-libs,ALL -Wl,-z,relro,-z,now".split()
 
 MISSING = f"""\
 range_set: there is no C library to build with, so nothing is installed.
@@ -111,7 +112,8 @@ def compiled(folder):
     script = f"import sys; sys.path.insert(0, {str(folder)!r}); import _core; print(_core.version)"
     ran = subprocess.run([sys.executable, "-c", script], stdout=subprocess.PIPE, stderr=subprocess.STDOUT, text=True)
     if ran.stdout != f"{VERSION}\n":
-        fail(f"range_set: the extension module does not load, so nothing is installed. {library} may be of another version:\n{ran.stdout.strip().splitlines()[-1]}\n")
+        last = ran.stdout.strip().splitlines()[-1]
+        fail(f"range_set: the extension module does not load, so nothing is installed. {library} may be of another version:\n{last}\n")
     return module
 
 

@@ -20,7 +20,10 @@ PyObject *subscripted(PyObject *type, PyObject *Py_UNUSED(item)) {
 }
 
 static struct PyModuleDef definition = {
-    PyModuleDef_HEAD_INIT, "range_set._core", "The sets of the C library, for the package range_set.", -1, NULL, NULL, NULL, NULL, NULL,
+    PyModuleDef_HEAD_INIT,
+    .m_name = "range_set._core",
+    .m_doc = "The sets of the C library, for the package range_set.",
+    .m_size = -1,
 };
 
 /* The only name that the module exports. */
