@@ -18,3 +18,10 @@ SELECT gaps('1..=5'::range_set4);
 SELECT elements('1..=3, 7, 2147483647'::range_set4);
 SELECT count(*), min(lower(r)), max(upper(r)) FROM (SELECT runs(range_set_agg(x * 2)) AS r FROM generate_series(1, 1000) x) AS q;
 SELECT count(*), sum(e) FROM (SELECT elements('1..=1000, 2001..=3000'::range_set) AS e) AS q;
+-- A set that is asked about many rows, and sets that differ from row to row.
+CREATE TABLE kept AS SELECT i, range_set_agg(x * (i + 1)) AS s FROM generate_series(1, 3) i, generate_series(1, 20000) x GROUP BY i;
+SELECT i, count(*) FROM kept, generate_series(1::bigint, 12) v WHERE s @> v GROUP BY i ORDER BY i;
+SELECT v, count(*) FROM generate_series(1::bigint, 12) v, kept WHERE s @> v GROUP BY v ORDER BY v;
+SELECT count(*) FROM generate_series(1::bigint, 100) v WHERE (SELECT s FROM kept WHERE i = 2) @> v;
+SELECT a.i, b.i FROM kept a, kept b WHERE a.s && b.s AND NOT a.s = b.s ORDER BY 1, 2;
+DROP TABLE kept;

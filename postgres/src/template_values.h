@@ -90,38 +90,70 @@ datum_of(SET *set)
 	return value;
 }
 
-/* ---- Arguments. A set that is the same in each call of a query is read once. */
+/* ---- Arguments. A query often asks the same set about many rows, so each place of a call keeps the
+ * set that it read last. */
 
-typedef struct Arguments
+/* The least size at which a value is worth keeping. */
+#define LEAST_KEPT 128
+
+/* A set, and a copy of the value that it was read from, or null if there is none. */
+typedef struct Kept
 {
-	bool		are_known[2];
-	SET			sets[2];
-} Arguments;
+	struct varlena *value;
+	SET			set;
+} Kept;
 
-/* Returns the set of an argument: one kept from an earlier call, or one that is now put in room. */
+/* Whether the set of a value is worth keeping. The bytes of a value that lies outside of its row name
+ * the place where it is, and nothing else comes to that place during a query. */
+static bool
+is_kept(const struct varlena *value)
+{
+	return VARATT_IS_EXTERNAL(value)
+		? VARATT_IS_EXTERNAL_ONDISK(value)
+		: VARSIZE_ANY(value) >= LEAST_KEPT;
+}
+
+static bool
+is_set_of(const Kept *kept, const struct varlena *value)
+{
+	return kept->value != NULL && VARSIZE_ANY(kept->value) == VARSIZE_ANY(value)
+		&& memcmp(kept->value, value, VARSIZE_ANY(value)) == 0;
+}
+
+/* Keeps the set of a value in place of the one that was kept. */
+static void
+keep(Kept *kept, const struct varlena *value, MemoryContext context)
+{
+	MemoryContext before = MemoryContextSwitchTo(context);
+
+	CALL(free) (&kept->set);
+	if (kept->value != NULL)
+		pfree(kept->value);
+	kept->value = NULL;
+	kept->set = set_of(PointerGetDatum(value));
+	kept->value = memcpy(palloc(VARSIZE_ANY(value)), value, VARSIZE_ANY(value));
+	MemoryContextSwitchTo(before);
+}
+
+/* Returns the set of an argument: the one that is kept, or one that is now put in room. */
 static const SET *
 argument(FunctionCallInfo fcinfo, int place, SET *room)
 {
 	FmgrInfo   *info = fcinfo->flinfo;
-	Arguments  *kept;
+	const struct varlena *value = (struct varlena *) PG_GETARG_POINTER(place);
+	Kept	   *kept;
 
-	if (info == NULL || !get_fn_expr_arg_stable(info, place))
+	if (info == NULL || !is_kept(value))
 	{
-		*room = set_of(PG_GETARG_DATUM(place));
+		*room = set_of(PointerGetDatum(value));
 		return room;
 	}
 	if (info->fn_extra == NULL)
-		info->fn_extra = MemoryContextAllocZero(info->fn_mcxt, sizeof(Arguments));
-	kept = info->fn_extra;
-	if (!kept->are_known[place])
-	{
-		MemoryContext before = MemoryContextSwitchTo(info->fn_mcxt);
-
-		kept->sets[place] = set_of(PG_GETARG_DATUM(place));
-		kept->are_known[place] = true;
-		MemoryContextSwitchTo(before);
-	}
-	return &kept->sets[place];
+		info->fn_extra = MemoryContextAllocZero(info->fn_mcxt, 2 * sizeof(Kept));
+	kept = (Kept *) info->fn_extra + place;
+	if (!is_set_of(kept, value))
+		keep(kept, value, info->fn_mcxt);
+	return &kept->set;
 }
 
 /* The two sets of a call. */
