@@ -68,16 +68,23 @@ def _union_of_parts(
 ) -> Delayed:
     """Returns the set of the values of all parts."""
     built = [delayed(_set_of_values)(part, values, bits, signed) for part in parts]
-    return _combined(built, _union, RangeSet(bits=bits, signed=signed), split_every)
+    return _combined(built, _union, RangeSet(bits=bits, signed=signed), split_every, signed)
 
 
 def _combined(
-    sent: List[Delayed], combine: Callable[[List[bytes]], bytes], of_none: RangeSet, split_every: int
+    sent: List[Delayed],
+    combine: Callable[[List[bytes]], bytes],
+    of_none: RangeSet,
+    split_every: int,
+    signed: bool = True,
 ) -> Delayed:
-    """Returns what a tree of tasks makes of some sets, or the result for no sets."""
+    """Returns what a tree of tasks makes of some sets, or the result for no sets.
+
+    Bytes are about ranks, so the tasks need not know whether the values are signed.
+    """
     if not sent:
         return delayed(of_none)
-    return delayed(RangeSet.from_bytes)(_reduced(sent, delayed(combine), split_every))
+    return delayed(RangeSet.from_bytes)(_reduced(sent, delayed(combine), split_every), signed=signed)
 
 
 def _reduced(nodes: List[Delayed], combine: Any, split_every: int, *more: int) -> Delayed:
