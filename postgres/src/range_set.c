@@ -21,6 +21,7 @@ PG_MODULE_MAGIC;
 
 /* The count of members, as a number of PostgreSQL. */
 static inline Datum count_datum(rsb_u64_count count);
+#define BYTES_OF_RUN 20
 #define COUNT_DATUM(count) count_datum(count)
 
 #include "templates.h"

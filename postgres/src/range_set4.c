@@ -16,6 +16,7 @@
 #define ELEMENT_DATUM(value) Int32GetDatum(value)
 #define RANGE_OID INT4RANGEOID
 #define MULTIRANGE_OID INT4MULTIRANGEOID
+#define BYTES_OF_RUN 10
 #define COUNT_DATUM(count) numeric_of(0, count)
 
 #include "templates.h"

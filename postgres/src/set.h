@@ -12,6 +12,9 @@
 /* Raises the error for a failed allocation. */
 extern void range_set_out_of_memory(void) pg_attribute_noreturn();
 
+/* Returns what is wrong with a byte, as a clause. */
+extern const char *range_set_fault(uint32 reason);
+
 /* Raises an error if a call of the library could not allocate. */
 static inline void
 check_memory(uint32 status)

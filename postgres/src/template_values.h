@@ -17,6 +17,9 @@ value_of(RANK rank)
 	return (ELEMENT) (rank ^ SIGN);
 }
 
+/* The most bytes that a set takes beside its runs. */
+#define BYTES_BESIDE_RUNS 16
+
 /* Returns the number 2^64 * high + low as a numeric. high is 0 or 1. */
 static Datum
 numeric_of(uint64 high, uint64 low)
@@ -37,13 +40,15 @@ set_from_bytes(const char *bytes, Size length, int error)
 {
 	SET			set = RSB_EMPTY;
 	size_t		position = 0;
-	uint32		status = CALL(from_bytes) (&set, (const unsigned char *) bytes, length, &position);
+	uint32		reason = 0;
+	uint32		status = CALL(from_bytes) (&set, (const unsigned char *) bytes, length,
+										   &position, &reason);
 
 	if (status == RSB_BAD_BYTES)
 		ereport(ERROR,
 				(errcode(error),
 				 errmsg("invalid bytes for type %s", TYPE_NAME),
-				 errdetail("The first wrong byte is at position %zu.", position)));
+				 errdetail("At position %zu, %s.", position, range_set_fault(reason))));
 	check_memory(status);
 	return set;
 }
@@ -65,18 +70,19 @@ set_of(Datum value)
 static Datum
 bytes_of(const SET *set)
 {
+	Size		room = Min(BYTES_BESIDE_RUNS + BYTES_OF_RUN * CALL(run_count) (set),
+						   MaxAllocSize - VARHDRSZ);
+	bytea	   *bytes = palloc(VARHDRSZ + room);
 	size_t		length = 0;
-	bytea	   *bytes;
+	uint32		status = CALL(to_bytes) (set, (unsigned char *) VARDATA(bytes), room, &length);
 
-	check_memory(CALL(to_bytes) (set, NULL, 0, &length));
-	if (length > MaxAllocSize - VARHDRSZ)
+	if (status == RSB_NO_ROOM)
 		ereport(ERROR,
 				(errcode(ERRCODE_PROGRAM_LIMIT_EXCEEDED),
 				 errmsg("value of type %s is too large", TYPE_NAME),
 				 errdetail("Its %zu runs take %zu bytes.", CALL(run_count) (set), length)));
-	bytes = palloc(VARHDRSZ + length);
+	check_memory(status);
 	SET_VARSIZE(bytes, VARHDRSZ + length);
-	check_memory(CALL(to_bytes) (set, (unsigned char *) VARDATA(bytes), length, &length));
 	return PointerGetDatum(bytes);
 }
 
