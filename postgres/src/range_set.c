@@ -3,15 +3,12 @@
 
 #define TYPE_NAME "range_set"
 #define FN(name) range_set_##name
-#define SET rsb_u64
-#define RUN rsb_u64_run
-#define CALL(name) rsb_u64_##name
-#define SIGNED(name) rsb_i64_##name
-#define SIGNED_SET rsb_i64
-#define RANK uint64
+#define SET rsb_i64
+#define RUN rsb_i64_run
+#define CALL(name) rsb_i64_##name
 #define ELEMENT int64
 #define LEAST PG_INT64_MIN
-#define GREATEST_RANK PG_UINT64_MAX
+#define GREATEST PG_INT64_MAX
 #define ELEMENT_FROM(datum) DatumGetInt64(datum)
 #define ELEMENT_DATUM(value) Int64GetDatum(value)
 #define RANGE_OID INT8RANGEOID

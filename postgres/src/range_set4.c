@@ -3,15 +3,12 @@
 
 #define TYPE_NAME "range_set4"
 #define FN(name) range_set4_##name
-#define SET rsb_u32
-#define RUN rsb_u32_run
-#define CALL(name) rsb_u32_##name
-#define SIGNED(name) rsb_i32_##name
-#define SIGNED_SET rsb_i32
-#define RANK uint32
+#define SET rsb_i32
+#define RUN rsb_i32_run
+#define CALL(name) rsb_i32_##name
 #define ELEMENT int32
 #define LEAST PG_INT32_MIN
-#define GREATEST_RANK PG_UINT32_MAX
+#define GREATEST PG_INT32_MAX
 #define ELEMENT_FROM(datum) DatumGetInt32(datum)
 #define ELEMENT_DATUM(value) Int32GetDatum(value)
 #define RANGE_OID INT4RANGEOID

@@ -53,7 +53,7 @@ change(State *state, Change by, const SET *other)
 
 /* Adds all from first to last to the set of a state. */
 static void
-add_run(State *state, RANK first, RANK last)
+add_run(State *state, ELEMENT first, ELEMENT last)
 {
 	MemoryContext before = MemoryContextSwitchTo(state->context);
 
@@ -79,9 +79,9 @@ SQL_FUNCTION(FN(agg_element))
 
 	if (!PG_ARGISNULL(1))
 	{
-		RANK		rank = rank_of(ELEMENT_FROM(PG_GETARG_DATUM(1)));
+		ELEMENT		value = ELEMENT_FROM(PG_GETARG_DATUM(1));
 
-		add_run(state, rank, rank);
+		add_run(state, value, value);
 	}
 	PG_RETURN_POINTER(state);
 }

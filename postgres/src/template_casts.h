@@ -57,7 +57,7 @@ SQL_FUNCTION(FN(to_multirange))
 				(errcode(ERRCODE_PROGRAM_LIMIT_EXCEEDED),
 				 errmsg("%zu runs are too many for a multirange", count)));
 	ranges = palloc((count + 1) * sizeof(RangeType *));
-	(void) CALL(runs_in) (&set, 0, GREATEST_RANK, runs, count);
+	(void) CALL(runs_in) (&set, LEAST, GREATEST, runs, count);
 	CALL(free) (&set);
 	for (size_t i = 0; i < count; i++)
 		ranges[i] = range_of_run(&runs[i]);
@@ -76,6 +76,6 @@ SQL_FUNCTION(FN(from_array))
 				(errcode(ERRCODE_NULL_VALUE_NOT_ALLOWED),
 				 errmsg("the array must not contain nulls")));
 	for (int i = 0; i < count; i++)
-		runs[i].first = runs[i].last = rank_of(elements[i]);
+		runs[i].first = runs[i].last = elements[i];
 	PG_RETURN_DATUM(datum_of_runs(runs, count));
 }

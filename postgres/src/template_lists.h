@@ -11,7 +11,7 @@ typedef struct Walk
 	RUN			runs[RUNS_AT_ONCE];
 	size_t		read;			/* how many of `runs` are filled */
 	size_t		used;			/* how many of these have been returned */
-	RANK		next;			/* where the next ones are read */
+	ELEMENT		next;			/* where the next ones are read */
 	bool		has_ended;		/* whether none is left to read */
 } Walk;
 
@@ -23,6 +23,7 @@ begin_walk(FunctionCallInfo fcinfo, FuncCallContext *calls, bool over_gaps)
 	Walk	   *walk = palloc0(sizeof(Walk));
 	SET			set = set_of(PG_GETARG_DATUM(0));
 
+	walk->next = LEAST;
 	walk->set = set;
 	if (over_gaps)
 	{
@@ -42,10 +43,10 @@ has_run(Walk *walk)
 		return true;
 	if (walk->has_ended)
 		return false;
-	walk->read = CALL(runs_in) (&walk->set, walk->next, GREATEST_RANK, walk->runs, RUNS_AT_ONCE);
+	walk->read = CALL(runs_in) (&walk->set, walk->next, GREATEST, walk->runs, RUNS_AT_ONCE);
 	walk->used = 0;
 	walk->has_ended = walk->read < RUNS_AT_ONCE
-		|| walk->runs[RUNS_AT_ONCE - 1].last == GREATEST_RANK;
+		|| walk->runs[RUNS_AT_ONCE - 1].last == GREATEST;
 	if (!walk->has_ended)
 		walk->next = walk->runs[RUNS_AT_ONCE - 1].last + 1;
 	return walk->read > 0;
@@ -85,7 +86,7 @@ SQL_FUNCTION(FN(elements))
 	FuncCallContext *calls;
 	Walk	   *walk;
 	RUN		   *run;
-	RANK		rank;
+	ELEMENT		value;
 
 	if (SRF_IS_FIRSTCALL())
 	{
@@ -97,10 +98,10 @@ SQL_FUNCTION(FN(elements))
 	if (!has_run(walk))
 		SRF_RETURN_DONE(calls);
 	run = &walk->runs[walk->used];
-	rank = run->first;
-	if (rank == run->last)
+	value = run->first;
+	if (value == run->last)
 		walk->used++;
 	else
 		run->first++;
-	SRF_RETURN_NEXT(calls, ELEMENT_DATUM(value_of(rank)));
+	SRF_RETURN_NEXT(calls, ELEMENT_DATUM(value));
 }

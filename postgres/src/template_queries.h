@@ -6,7 +6,7 @@ has_element(FunctionCallInfo fcinfo, int set_at, int element_at)
 {
 	SET			room = RSB_EMPTY;
 	bool		found = CALL(contains) (argument(fcinfo, set_at, &room),
-										rank_of(ELEMENT_FROM(PG_GETARG_DATUM(element_at))));
+										ELEMENT_FROM(PG_GETARG_DATUM(element_at)));
 
 	CALL(free) (&room);
 	PG_RETURN_BOOL(found);
@@ -101,7 +101,7 @@ SQL_FUNCTION(FN(rank))
 {
 	SET			room = RSB_EMPTY;
 	Datum		count = COUNT_DATUM(CALL(rank) (argument(fcinfo, 0, &room),
-												rank_of(ELEMENT_FROM(PG_GETARG_DATUM(1)))));
+												ELEMENT_FROM(PG_GETARG_DATUM(1))));
 
 	CALL(free) (&room);
 	return count;
@@ -109,11 +109,11 @@ SQL_FUNCTION(FN(rank))
 
 /* Returns an element that was found, or null. */
 static Datum
-element_or_null(FunctionCallInfo fcinfo, bool found, RANK rank)
+element_or_null(FunctionCallInfo fcinfo, bool found, ELEMENT value)
 {
 	if (!found)
 		PG_RETURN_NULL();
-	return ELEMENT_DATUM(value_of(rank));
+	return ELEMENT_DATUM(value);
 }
 
 SQL_FUNCTION(FN(nth))
@@ -121,31 +121,31 @@ SQL_FUNCTION(FN(nth))
 	SET			room = RSB_EMPTY;
 	const SET  *set = argument(fcinfo, 0, &room);
 	int64		n = PG_GETARG_INT64(1);
-	RANK		rank = 0;
-	bool		found = n >= 0 && CALL(nth) (set, (uint64) n, &rank);
+	ELEMENT		value = 0;
+	bool		found = n >= 0 && CALL(nth) (set, (uint64) n, &value);
 
 	CALL(free) (&room);
-	return element_or_null(fcinfo, found, rank);
+	return element_or_null(fcinfo, found, value);
 }
 
 SQL_FUNCTION(FN(first))
 {
 	SET			room = RSB_EMPTY;
-	RANK		rank = 0;
-	bool		found = CALL(first) (argument(fcinfo, 0, &room), &rank);
+	ELEMENT		value = 0;
+	bool		found = CALL(first) (argument(fcinfo, 0, &room), &value);
 
 	CALL(free) (&room);
-	return element_or_null(fcinfo, found, rank);
+	return element_or_null(fcinfo, found, value);
 }
 
 SQL_FUNCTION(FN(last))
 {
 	SET			room = RSB_EMPTY;
-	RANK		rank = 0;
-	bool		found = CALL(last) (argument(fcinfo, 0, &room), &rank);
+	ELEMENT		value = 0;
+	bool		found = CALL(last) (argument(fcinfo, 0, &room), &value);
 
 	CALL(free) (&room);
-	return element_or_null(fcinfo, found, rank);
+	return element_or_null(fcinfo, found, value);
 }
 
 SQL_FUNCTION(FN(first_gap))
@@ -153,7 +153,7 @@ SQL_FUNCTION(FN(first_gap))
 	SET			room = RSB_EMPTY;
 	const SET  *set = argument(fcinfo, 0, &room);
 	int64		length = PG_GETARG_INT64(1);
-	RANK		from = rank_of(ELEMENT_FROM(PG_GETARG_DATUM(2)));
+	ELEMENT		from = ELEMENT_FROM(PG_GETARG_DATUM(2));
 	RUN			gap;
 	bool		found;
 

@@ -9,7 +9,7 @@ range_type(void)
 	return lookup_type_cache(RANGE_OID, TYPECACHE_RANGE_INFO);
 }
 
-/* Stores the ranks of a range in run and returns true, or returns false if the range has no element. */
+/* Stores the elements of a range in run and returns true, or returns false if the range has no element. */
 static bool
 run_of_range(const RangeType *range, RUN *run)
 {
@@ -22,8 +22,8 @@ run_of_range(const RangeType *range, RUN *run)
 	 * range below the least element is not empty for PostgreSQL, but has no element. */
 	if (is_empty || (!upper.infinite && ELEMENT_FROM(upper.val) == LEAST))
 		return false;
-	run->first = lower.infinite ? 0 : rank_of(ELEMENT_FROM(lower.val));
-	run->last = upper.infinite ? GREATEST_RANK : rank_of(ELEMENT_FROM(upper.val)) - 1;
+	run->first = lower.infinite ? LEAST : ELEMENT_FROM(lower.val);
+	run->last = upper.infinite ? GREATEST : ELEMENT_FROM(upper.val) - 1;
 	return true;
 }
 
@@ -32,11 +32,11 @@ run_of_range(const RangeType *range, RUN *run)
 static RangeType *
 range_of_run(const RUN *run)
 {
-	bool		is_last = run->last == GREATEST_RANK;
+	bool		is_last = run->last == GREATEST;
 	RangeBound	lower = {.lower = true, .inclusive = true, .infinite = false};
 	RangeBound	upper = {.lower = false, .inclusive = false, .infinite = is_last};
 
-	lower.val = ELEMENT_DATUM(value_of(run->first));
-	upper.val = is_last ? (Datum) 0 : ELEMENT_DATUM(value_of(run->last + 1));
+	lower.val = ELEMENT_DATUM(run->first);
+	upper.val = is_last ? (Datum) 0 : ELEMENT_DATUM(run->last + 1);
 	return make_range(range_type(), &lower, &upper, false);
 }

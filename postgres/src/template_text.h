@@ -5,7 +5,7 @@ SQL_FUNCTION(FN(in))
 {
 	char	   *text = PG_GETARG_CSTRING(0);
 	SET			set = RSB_EMPTY;
-	uint32		status = SIGNED(from_text) (&set, text, strlen(text));
+	uint32		status = CALL(from_text) (&set, text, strlen(text));
 
 	if (status == RSB_BAD_TEXT)
 		ereport(ERROR,
@@ -22,9 +22,9 @@ SQL_FUNCTION(FN(out))
 	size_t		length = 0;
 	char	   *text;
 
-	check_memory(SIGNED(to_text) (&set, NULL, 0, &length));
+	check_memory(CALL(to_text) (&set, NULL, 0, &length));
 	text = palloc(length + 1);
-	check_memory(SIGNED(to_text) (&set, text, length, &length));
+	check_memory(CALL(to_text) (&set, text, length, &length));
 	text[length] = '\0';
 	CALL(free) (&set);
 	PG_RETURN_CSTRING(text);

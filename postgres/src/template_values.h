@@ -2,21 +2,6 @@
 #include "utils/builtins.h"
 #include "utils/memutils.h"
 
-/* The sign bit maps elements onto ranks of the same order. */
-#define SIGN ((RANK) 1 << (8 * sizeof(RANK) - 1))
-
-static inline RANK
-rank_of(ELEMENT value)
-{
-	return (RANK) value ^ SIGN;
-}
-
-static inline ELEMENT
-value_of(RANK rank)
-{
-	return (ELEMENT) (rank ^ SIGN);
-}
-
 /* The most bytes that a set takes beside its runs. */
 #define BYTES_BESIDE_RUNS 16
 
