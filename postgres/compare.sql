@@ -7,17 +7,20 @@ SELECT setseed(0.25);
 CREATE FUNCTION random_multirange(base bigint) RETURNS int8multirange LANGUAGE sql VOLATILE AS $$
     SELECT coalesce(range_agg(CASE
         WHEN base > 0 AND random() < 0.1 THEN int8range(base + (random() * 30)::bigint, NULL)
-        WHEN base < 0 AND random() < 0.1 THEN int8range(NULL, base + (random() * 30)::bigint)
+        WHEN base < 0 AND random() < 0.1 THEN int8range(NULL, base + 1 + (random() * 30)::bigint)
         ELSE int8range(base + low, base + low + (random() * 8)::bigint) END), '{}')
     FROM (SELECT (random() * 30)::bigint AS low FROM generate_series(1, (random() * 5)::int)) AS lows
 $$;
 
+-- For PostgreSQL, a range without a lower bound has more than one that begins at the least bigint. So the pairs
+-- have the latter, as casts from range_set do; the first check is about the others too.
 CREATE TABLE pairs AS
-    SELECT a, b, a::range_set AS s, b::range_set AS t, base + (random() * 40)::bigint AS value,
+    SELECT raw, raw::range_set::int8multirange AS a, b::range_set::int8multirange AS b, raw::range_set AS s, b::range_set AS t,
+        base + (random() * 40)::bigint AS value,
         int8range(base + low, base + low + (random() * 6)::bigint) AS range
     FROM (SELECT (ARRAY[-9223372036854775808, 0, 9223372036854775807 - 50])[i % 3 + 1] AS base, (random() * 35)::bigint AS low
         FROM generate_series(1, 100000) i) AS bases,
-        LATERAL (SELECT random_multirange(base) AS a, random_multirange(base) AS b) AS both_of;
+        LATERAL (SELECT random_multirange(base) AS raw, random_multirange(base) AS b) AS both_of;
 
 -- Elements of a small set, which compare as arrays do.
 CREATE FUNCTION elements_below(s range_set, n bigint) RETURNS bigint[] LANGUAGE sql IMMUTABLE AS $$
@@ -25,7 +28,7 @@ CREATE FUNCTION elements_below(s range_set, n bigint) RETURNS bigint[] LANGUAGE 
 $$;
 
 CREATE TABLE differences AS
-    SELECT 'cast' AS what, count(*) FROM pairs WHERE s::int8multirange::range_set <> s OR s::int8multirange::range_set <> a::range_set
+    SELECT 'cast' AS what, count(*) FROM pairs WHERE a::range_set <> s OR (raw @> value) <> (s @> value)
     UNION ALL SELECT '+', count(*) FROM pairs WHERE s + t <> (a + b)::range_set
     UNION ALL SELECT '*', count(*) FROM pairs WHERE s * t <> (a * b)::range_set
     UNION ALL SELECT '-', count(*) FROM pairs WHERE s - t <> (a - b)::range_set

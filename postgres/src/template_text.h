@@ -22,9 +22,9 @@ SQL_FUNCTION(FN(out))
 	size_t		length = 0;
 	char	   *text;
 
-	check_memory(CALL(to_text) (&set, NULL, 0, &length));
+	check_memory(CALL(to_short_text) (&set, NULL, 0, &length));
 	text = palloc(length + 1);
-	check_memory(CALL(to_text) (&set, text, length, &length));
+	check_memory(CALL(to_short_text) (&set, text, length, &length));
 	text[length] = '\0';
 	CALL(free) (&set);
 	PG_RETURN_CSTRING(text);
