@@ -4,7 +4,7 @@
 
 #include "postgres.h"
 
-#include <range_set.h>
+#include <range_set/i32.h>
 #include <range_set/i64.h>
 
 #include "fmgr.h"
