@@ -1,9 +1,9 @@
 # Completions of bash for ip_lists.
 _ip_lists() {
-    local word=${COMP_WORDS[COMP_CWORD]} operations="union common except odd at-least complement count has" at
+    local word=${COMP_WORDS[COMP_CWORD]} operations="union common except odd at-least complement count has diff check" at
     COMPREPLY=()
     if [[ $word == -* ]]; then
-        mapfile -t COMPREPLY < <(compgen -W "--blocks --ranges -4 -6 --help --version --" -- "$word")
+        mapfile -t COMPREPLY < <(compgen -W "--blocks --ranges -4 -6 -h --help --version --" -- "$word")
         return
     fi
     for ((at = 1; at < COMP_CWORD; at++)); do

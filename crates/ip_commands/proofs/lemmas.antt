@@ -2,6 +2,7 @@ pub mod Answer
 pub mod Appends
 pub mod CommandLine
 pub mod Count
+pub mod Differing
 pub mod Files
 pub mod Laid
 pub mod Lines
@@ -9,6 +10,7 @@ pub mod Names
 pub mod OneAnswer
 pub mod Program
 pub mod ReadBack
+pub mod Reports
 pub mod SameText
 pub mod Selection
 pub mod Text

@@ -1,23 +1,29 @@
 -- The answers to requests.
-use Rattle.std.specs.Prelude.{◌≡◌, ℕ, ◌-◌, ◌^◌, Bool, List, [], ◌∷◌, ◌++◌, Option, codes, decimal, filter, flat_map, length, map, min, zip}
+use Rattle.std.specs.Prelude.{◌≡◌, ℕ, ◌-◌, ◌^◌, Bool, List, [], ◌∷◌, ◌++◌, Option, codes, IfSome, decimal, filter, flat_map, length, map, min, zip}
+use Rattle.std.specs.List.{AllZip}
+use Rattle.std.specs.Str.Lines.{lines}
 use Rattle.std.specs.Io.KnownBytes.{Appends}
 use Rattle.std.specs.Net.Addr.{ipv4_bits, ipv6_bits}
 use Rattle.std.specs.declared.net.ip_addr.IpAddr.{IpAddr}
 use Rattle.std.specs.declared.net.ip_addr.IpAddr.TheVariants as Ip
 use Rattle.range_set_blaze.specs.Runs.{Interval, IsCanonicalIn, members}
-use Rattle.range_set_blaze.specs.Selection.{Agree, Selection, any_of, count}
+use Rattle.range_set_blaze.specs.Selection.{Agree, Selection, any_of, count, difference}
 use Rattle.ip_sets.specs.Blocks.{AreMaximalBlocks}
+use Rattle.ip_sets.specs.declared.list.bad_line.BadLine.{BadLine as Report}
+use Rattle.ip_sets.specs.List.{AreReportsFrom, reports_text}
 use Rattle.ip_sets.specs.Operation.{selected_by}
-use Rattle.ip_commands.specs.Files.{AreFilesOf, Selected}
-use Rattle.ip_commands.specs.Text.{IsListText, kept_v4, kept_v6}
+use Rattle.ip_commands.specs.Files.{AreFilesOf, IsFileOf, Selected}
+use Rattle.ip_commands.specs.Text.{IsListText, IsSignedList, kept_v4, kept_v6}
+use Rattle.ip_commands.specs.declared.request.Diff.{Diff}
+use Rattle.ip_commands.specs.declared.request.Form.{Form}
 use Rattle.ip_commands.specs.declared.commands.Outcome.{Outcome}
-use Rattle.ip_commands.specs.declared.commands.Outcome.TheVariants.{Done, InNone}
+use Rattle.ip_commands.specs.declared.commands.Outcome.TheVariants.{BadLines, Differs, Done, InNone}
 use Rattle.ip_commands.specs.declared.commands.TheConstants.{HELP, VERSION}
 use Rattle.ip_commands.specs.declared.request.Request.{Request}
 use Rattle.ip_commands.specs.declared.request.Combination.{Combination}
 use Rattle.ip_commands.specs.declared.request.Families.{Families}
 use Rattle.ip_commands.specs.declared.request.Families.TheVariants.{Both, V4, V6}
-use Rattle.ip_commands.specs.declared.request.Request.TheVariants.{Combine, Count, Has, Help, Version}
+use Rattle.ip_commands.specs.declared.request.Request.TheVariants.{Check, Combine, Count, Diff as Compare, Has, Help, Version}
 
 -- The IPv4 addresses of each list.
 abbrev pub v4_of : List Selected → List Selection
@@ -76,6 +82,46 @@ abbrev pub found_outcome : List (List ℕ) → Outcome
 found_outcome [] = InNone
 found_outcome (name ∷ names) = Done
 
+-- ---- what differs
+
+-- Whether two lists have the same addresses of some families.
+abbrev pub AreSame : Families → Selected → Selected → Type 0
+AreSame Both old new = Agree (2 ^ 32) old.v4 new.v4 × Agree (2 ^ 128) old.v6 new.v6
+AreSame V4 old new = Agree (2 ^ 32) old.v4 new.v4
+AreSame V6 old new = Agree (2 ^ 128) old.v6 new.v6
+
+-- Whether the outcome says whether two lists are the same.
+abbrev pub IsDiffOutcome : Outcome → Type 0 → Type 0
+IsDiffOutcome Done Same = Same
+IsDiffOutcome Differs Same = ¬ Same
+IsDiffOutcome outcome Same = ⊥
+
+-- Whether the text has what one list has and a newer one lacks, each line with `-` before it, and
+-- then what only the newer one has, with `+`.
+pub record IsDiffText (form : Form) (families : Families) (old new : Selected) (text : List ℕ)
+    : Type 0 where
+  pub out4 : List Interval
+  pub out6 : List Interval
+  pub in4 : List Interval
+  pub in6 : List Interval
+  pub out4_made : Agree (2 ^ 32) (members out4) (difference old.v4 new.v4)
+  pub out6_made : Agree (2 ^ 128) (members out6) (difference old.v6 new.v6)
+  pub in4_made : Agree (2 ^ 32) (members in4) (difference new.v4 old.v4)
+  pub in6_made : Agree (2 ^ 128) (members in6) (difference new.v6 old.v6)
+  pub minus : List ℕ
+  pub plus : List ℕ
+  pub minus_text : IsSignedList (codes "-") form (kept_v4 families out4) (kept_v6 families out6)
+      minus
+  pub plus_text : IsSignedList (codes "+") form (kept_v4 families in4) (kept_v6 families in6) plus
+  pub whole : text ≡ minus ++ plus
+
+-- ---- bad lines
+
+-- The outcome of a check with these reports.
+abbrev pub checked_outcome : List ℕ → Outcome
+checked_outcome [] = Done
+checked_outcome (byte ∷ bytes) = BadLines
+
 -- ---- answers. `bytes` are those of the file with a name, if they are known.
 
 module _ (bytes : List ℕ → Option (List ℕ)) where
@@ -109,6 +155,32 @@ module _ (bytes : List ℕ → Option (List ℕ)) where
     pub ends : outcome ≡ found_outcome (names_with (has_address address) files lists)
     pub whole : text ≡ names_text (names_with (has_address address) files lists)
 
+  -- Whether the text has what differs between the lists in two files, and the outcome says whether
+  -- they differ.
+  pub record IsDiffed (diff : Diff) (outcome : Outcome) (text : List ℕ) : Type 0 where
+    pub old : Selected
+    pub new : Selected
+    pub old_is : IsFileOf bytes diff.old.now old
+    pub new_is : IsFileOf bytes diff.new.now new
+    pub differs : IsDiffText diff.form diff.families old new text
+    pub ends : IsDiffOutcome outcome (AreSame diff.families old new)
+
+  -- Whether the text has a line for each bad line of the file with this name, with its number, a
+  -- reason and its text. If the bytes of the file are not known, this claims only the form.
+  abbrev pub IsReported : List ℕ → List ℕ → Type 0
+  IsReported file text = (reports : List Report) × (text ≡ reports_text file reports)
+      × IfSome (bytes file) (λ all. AreReportsFrom 1 (lines all) reports)
+
+  -- Whether the text has a line for each bad line of the files, in order.
+  pub record AreReported (files : List (List ℕ)) (text : List ℕ) : Type 0 where
+    pub texts : List (List ℕ)
+    pub each : AllZip IsReported files texts
+    pub whole : text ≡ flat_map (λ (part : List ℕ). part) texts
+
+  -- Whether the text is that, and the outcome says whether there is a bad line.
+  abbrev pub IsChecked : List (List ℕ) → Outcome → List ℕ → Type 0
+  IsChecked files outcome text = AreReported files text × (outcome ≡ checked_outcome text)
+
   -- Whether a request was answered by what was written.
   abbrev pub Answers : Request → Outcome → Option (List ℕ) → Option (List ℕ) → Type 0
   Answers Help outcome old new = (outcome ≡ Done) × Appends old new HELP.now
@@ -120,4 +192,9 @@ module _ (bytes : List ℕ → Option (List ℕ)) where
       × Appends old new text)
   Answers (Has address files) outcome old new =
       (text : List ℕ) × IsFound address (map (λ name. name.now) files.now) outcome text
+      × Appends old new text
+  Answers (Compare diff) outcome old new =
+      (text : List ℕ) × IsDiffed diff outcome text × Appends old new text
+  Answers (Check files) outcome old new =
+      (text : List ℕ) × IsChecked (map (λ name. name.now) files.now) outcome text
       × Appends old new text

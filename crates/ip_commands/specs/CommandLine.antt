@@ -14,13 +14,13 @@ use Rattle.ip_commands.specs.declared.arguments.Question.TheVariants as Asked
 use Rattle.ip_commands.specs.declared.fault.Fault.{Fault}
 use Rattle.ip_commands.specs.declared.fault.Fault.TheVariants.{BadLine, CommandLine, NoMemory, NotRead, NotWritten}
 use Rattle.ip_commands.specs.declared.fault.Misuse.{Misuse}
-use Rattle.ip_commands.specs.declared.fault.Misuse.TheVariants.{NoAddress, NoCommand, NoNumber, NotText, TooFewWords, UnknownCommand, UnknownOption}
+use Rattle.ip_commands.specs.declared.fault.Misuse.TheVariants.{ExtraWord, MissingAddress, MissingFile, MissingNumber, NoAddress, NoCommand, NoNumber, NotText, UnknownCommand, UnknownOption}
 use Rattle.ip_commands.specs.declared.request.Families.{Families}
 use Rattle.ip_commands.specs.declared.request.Families.TheVariants.{Both, V4, V6}
 use Rattle.ip_commands.specs.declared.request.Form.{Form}
 use Rattle.ip_commands.specs.declared.request.Form.TheVariants.{Blocks, Ranges}
 use Rattle.ip_commands.specs.declared.request.Request.{Request}
-use Rattle.ip_commands.specs.declared.request.Request.TheVariants.{Combine, Count, Has, Help, Version}
+use Rattle.ip_commands.specs.declared.request.Request.TheVariants.{Check, Combine, Count, Diff as Compare, Has, Help, Version}
 
 -- ---- options and operands
 
@@ -65,8 +65,9 @@ families_asked word = if bytes_eq word (codes "-4") then Some V4
 
 -- A question about the program itself.
 abbrev pub question_asked : List ℕ → Option Question
-question_asked word = if bytes_eq word (codes "--help") then Some Asked.Help
-    else (if bytes_eq word (codes "--version") then Some Asked.Version else None)
+question_asked word = if bytes_eq word (codes "-h") then Some Asked.Help
+    else (if bytes_eq word (codes "--help") then Some Asked.Help
+    else (if bytes_eq word (codes "--version") then Some Asked.Version else None))
 
 -- Whether an option is one that the program has.
 abbrev pub is_known : List ℕ → Bool
@@ -102,7 +103,9 @@ words_needed word = if bytes_eq word (codes "union") then Some 1
     else (if bytes_eq word (codes "at-least") then Some 2
     else (if bytes_eq word (codes "complement") then Some 1
     else (if bytes_eq word (codes "count") then Some 1
-    else (if bytes_eq word (codes "has") then Some 2 else None)))))))
+    else (if bytes_eq word (codes "has") then Some 2
+    else (if bytes_eq word (codes "diff") then Some 2
+    else (if bytes_eq word (codes "check") then Some 1 else None)))))))))
 
 -- Whether a word is a number of lists, in decimals. A plus may come first.
 abbrev pub IsNumber : List ℕ → Type 0
@@ -137,6 +140,10 @@ module _ (form : Form) (families : Families) (operands : List (List ℕ)) where
   IsRequestWith (Has address files) = (word : List ℕ)
       × (operands ≡ codes "has" ∷ word ∷ map (λ name. name.now) files.now)
       × IsIpText word address × (1 ≤ length files.now)
+  IsRequestWith (Compare diff) = (diff.form ≡ form) × (diff.families ≡ families)
+      × (operands ≡ codes "diff" ∷ diff.old.now ∷ diff.new.now ∷ [])
+  IsRequestWith (Check files) =
+      (operands ≡ codes "check" ∷ map (λ name. name.now) files.now) × (1 ≤ length files.now)
 
 -- Whether this is the first thing that is wrong with the operands.
 abbrev pub IsMisuseOfOperands : List (List ℕ) → Misuse → Type 0
@@ -149,9 +156,14 @@ IsMisuseOfOperands operands (NoNumber word) = (files : List (List ℕ))
 IsMisuseOfOperands operands (NoAddress word) = (files : List (List ℕ))
     × (operands ≡ codes "has" ∷ word.now ∷ files) × (1 ≤ length files)
     × ((address : IpAddr) → ¬ IsIpText word.now address)
-IsMisuseOfOperands operands TooFewWords = (command : List ℕ) × (others : List (List ℕ))
+IsMisuseOfOperands operands (ExtraWord word) =
+    (old : List ℕ) × (new : List ℕ) × (others : List (List ℕ))
+    × (operands ≡ codes "diff" ∷ old ∷ new ∷ word.now ∷ others)
+IsMisuseOfOperands operands MissingFile = (command : List ℕ) × (others : List (List ℕ))
     × (operands ≡ command ∷ others)
     × IsSomeAnd (words_needed command) (λ needed. length others < needed)
+IsMisuseOfOperands operands MissingNumber = operands ≡ codes "at-least" ∷ []
+IsMisuseOfOperands operands MissingAddress = operands ≡ codes "has" ∷ []
 IsMisuseOfOperands operands NotText = ⊥
 
 -- ---- what words ask for
@@ -188,7 +200,7 @@ pub record AreArguments {A : Type 0} (words : List (List ℕ)) (arguments : Argu
 
 -- Whether the fault is the first option that is unknown, or a failed allocation.
 abbrev pub IsWordFault : List (List ℕ) → Fault → Type 0
-IsWordFault words (BadLine file line) = ⊥
+IsWordFault words (BadLine file bad) = ⊥
 IsWordFault words (NotRead file error) = ⊥
 IsWordFault words (NotWritten error) = ⊥
 IsWordFault words NoMemory = Unit {0}

@@ -1,11 +1,15 @@
 -- Faults as lines and as exit statuses.
-use Rattle.std.specs.Prelude.{ℕ, List, ◌++◌, Option, Some, None, Result, Ok, Err, codes, decimal}
+use Rattle.std.specs.Prelude.{ℕ, ◌==◌, Bool, false, IsTrue, List, ◌++◌, Option, Some, None, Result, Ok, Err, codes}
+use Rattle.std.specs.IoError.{error_kind}
+use Rattle.std.specs.declared.io.ErrorKind.{ErrorKind}
+use Rattle.std.specs.declared.io.ErrorKind.TheVariants.{BrokenPipe}
+use Rattle.ip_sets.specs.List.{bad_line_text}
 use Rattle.ip_commands.specs.declared.commands.Outcome.{Outcome}
-use Rattle.ip_commands.specs.declared.commands.Outcome.TheVariants.{Done, InNone}
+use Rattle.ip_commands.specs.declared.commands.Outcome.TheVariants.{BadLines, Differs, Done, InNone}
 use Rattle.ip_commands.specs.declared.fault.Fault.{Fault}
 use Rattle.ip_commands.specs.declared.fault.Fault.TheVariants.{BadLine, CommandLine, NoMemory, NotRead, NotWritten}
 use Rattle.ip_commands.specs.declared.fault.Misuse.{Misuse}
-use Rattle.ip_commands.specs.declared.fault.Misuse.TheVariants.{NoAddress, NoCommand, NoNumber, NotText, TooFewWords, UnknownCommand, UnknownOption}
+use Rattle.ip_commands.specs.declared.fault.Misuse.TheVariants.{ExtraWord, MissingAddress, MissingFile, MissingNumber, NoAddress, NoCommand, NoNumber, NotText, UnknownCommand, UnknownOption}
 
 -- What is wrong with a command line, in words.
 abbrev pub misuse_text : Misuse → List ℕ
@@ -14,31 +18,51 @@ misuse_text (UnknownCommand word) = codes "unknown command: " ++ word.now
 misuse_text (UnknownOption word) = codes "unknown option: " ++ word.now
 misuse_text (NoNumber word) = codes "not a number of lists: " ++ word.now
 misuse_text (NoAddress word) = codes "not an address: " ++ word.now
-misuse_text TooFewWords = codes "too few words after the command"
+misuse_text (ExtraWord word) = codes "a word too many: " ++ word.now
+misuse_text MissingFile = codes "missing FILE after the command"
+misuse_text MissingNumber = codes "missing K and FILE after the command"
+misuse_text MissingAddress = codes "missing ADDRESS and FILE after the command"
 misuse_text NotText = codes "an argument is not UTF-8"
 
 -- The line that reports a fault, without its line feed. The system's words for a failed read or
 -- write are not known.
 abbrev pub fault_text : Fault → Option (List ℕ)
-fault_text (BadLine file line) =
-    Some (file.now ++ codes ":" ++ decimal line ++ codes ": not an address, block or range")
+fault_text (BadLine file bad) = Some (file.now ++ codes ":" ++ bad_line_text bad)
 fault_text (NotRead file error) = None
 fault_text (NotWritten error) = None
 fault_text NoMemory = Some (codes "ip_lists: no memory")
 fault_text (CommandLine misuse) = Some (codes "ip_lists: " ++ misuse_text misuse)
 
+-- The exit status after a write that failed with an error of a kind: 0 if the reader of the output
+-- went away.
+abbrev pub unwritten_status : ErrorKind → ℕ
+unwritten_status BrokenPipe = 0
+unwritten_status kind = 4
+
 -- The exit status of a fault.
 abbrev pub fault_status : Fault → ℕ
-fault_status (BadLine file line) = 2
+fault_status (BadLine file bad) = 2
 fault_status NoMemory = 3
 fault_status (NotRead file error) = 4
-fault_status (NotWritten error) = 4
+fault_status (NotWritten error) = unwritten_status (error_kind error)
 fault_status (CommandLine misuse) = 64
+
+-- Whether a fault is that the reader of the output went away, which is not reported.
+abbrev pub is_silent : Fault → Bool
+is_silent (NotWritten error) = unwritten_status (error_kind error) == 0
+is_silent fault = false
+
+-- Whether there is nothing to report at the end.
+abbrev pub IsQuiet : Result Outcome Fault → Type 0
+IsQuiet (Ok outcome) = Unit {0}
+IsQuiet (Err fault) = IsTrue (is_silent fault)
 
 -- The exit status if there was no fault.
 abbrev pub outcome_status : Outcome → ℕ
 outcome_status Done = 0
 outcome_status InNone = 1
+outcome_status Differs = 1
+outcome_status BadLines = 2
 
 -- The exit status of the program.
 abbrev pub status_after : Result Outcome Fault → ℕ

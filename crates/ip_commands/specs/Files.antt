@@ -6,6 +6,7 @@ use Rattle.range_set_blaze.specs.Runs.{members}
 use Rattle.range_set_blaze.specs.Selection.{Selection}
 use Rattle.ip_sets.specs.List.{IsFirstBadLine, IsListOf}
 use Rattle.ip_sets.specs.declared.list.AddressList.{AddressList}
+use Rattle.ip_sets.specs.declared.list.bad_line.BadLine.{BadLine as Report}
 use Rattle.ip_commands.specs.declared.fault.Fault.{Fault}
 use Rattle.ip_commands.specs.declared.fault.Fault.TheVariants.{BadLine, CommandLine, NoMemory, NotRead, NotWritten}
 
@@ -39,16 +40,16 @@ module _ (bytes : List ℕ → Option (List ℕ)) where
     pub parts : files ≡ before ++ file ∷ after
     pub good : All IsGoodFile before
 
-  -- Whether the file is the first of these that has a bad line, and the number is that of the first
+  -- Whether the file is the first of these that has a bad line, and the report is that of the first
   -- such line in it.
-  pub record IsFirstBadFile (files : List (List ℕ)) (file : List ℕ) (line : ℕ) : Type 0 where
+  pub record IsFirstBadFile (files : List (List ℕ)) (file : List ℕ) (bad : Report) : Type 0 where
     pub first : IsFirstFile files file
-    pub bad : IfSome (bytes file) (λ all. IsFirstBadLine all line)
+    pub line : IfSome (bytes file) (λ all. IsFirstBadLine all bad)
 
   -- Whether the fault is the first one, if it is about a file. A write can fail only after each of
   -- the files was read as a list, and no fault here is about the command line.
   abbrev pub IsFirstFault : List (List ℕ) → Fault → Type 0
-  IsFirstFault files (BadLine file line) = IsFirstBadFile files file.now line
+  IsFirstFault files (BadLine file bad) = IsFirstBadFile files file.now bad
   IsFirstFault files (NotRead file error) = IsFirstFile files file.now
   IsFirstFault files (NotWritten error) = All IsGoodFile files
   IsFirstFault files NoMemory = Unit {0}
@@ -56,16 +57,26 @@ module _ (bytes : List ℕ → Option (List ℕ)) where
 
   -- Whether the fault is one of this file, if it is about a file.
   abbrev pub IsFaultOf : List ℕ → Fault → Type 0
-  IsFaultOf name (BadLine file line) =
-      (file.now ≡ name) × IfSome (bytes name) (λ all. IsFirstBadLine all line)
+  IsFaultOf name (BadLine file bad) =
+      (file.now ≡ name) × IfSome (bytes name) (λ all. IsFirstBadLine all bad)
   IsFaultOf name (NotRead file error) = file.now ≡ name
   IsFaultOf name (NotWritten error) = ⊥
   IsFaultOf name NoMemory = Unit {0}
   IsFaultOf name (CommandLine misuse) = ⊥
 
+-- Whether the fault can end a check of these files: a failed read of one of them, a failed write, or
+-- a failed allocation.
+abbrev pub IsCheckFault : List (List ℕ) → Fault → Type 0
+IsCheckFault files (BadLine file bad) = ⊥
+IsCheckFault files (NotRead file error) =
+    (before : List (List ℕ)) × (after : List (List ℕ)) × (files ≡ before ++ file.now ∷ after)
+IsCheckFault files (NotWritten error) = Unit {0}
+IsCheckFault files NoMemory = Unit {0}
+IsCheckFault files (CommandLine misuse) = ⊥
+
 -- Whether the fault is a failed read of this file, or a failed allocation.
 abbrev pub IsNotRead : List ℕ → Fault → Type 0
-IsNotRead name (BadLine file line) = ⊥
+IsNotRead name (BadLine file bad) = ⊥
 IsNotRead name (NotRead file error) = file.now ≡ name
 IsNotRead name (NotWritten error) = ⊥
 IsNotRead name NoMemory = Unit {0}
@@ -73,7 +84,7 @@ IsNotRead name (CommandLine misuse) = ⊥
 
 -- Whether nothing was written, unless the fault is a failed write.
 abbrev pub KeepsUnlessWriting : Fault → Option (List ℕ) → Option (List ℕ) → Type 0
-KeepsUnlessWriting (BadLine file line) old new = Keeps old new
+KeepsUnlessWriting (BadLine file bad) old new = Keeps old new
 KeepsUnlessWriting (NotRead file error) old new = Keeps old new
 KeepsUnlessWriting (NotWritten error) old new = Unit {0}
 KeepsUnlessWriting NoMemory old new = Keeps old new
@@ -81,7 +92,7 @@ KeepsUnlessWriting (CommandLine misuse) old new = Keeps old new
 
 -- Whether the fault can come after all files were read: a failed allocation or a failed write.
 abbrev pub IsAfterReading : Fault → Type 0
-IsAfterReading (BadLine file line) = ⊥
+IsAfterReading (BadLine file bad) = ⊥
 IsAfterReading (NotRead file error) = ⊥
 IsAfterReading (NotWritten error) = Unit {0}
 IsAfterReading NoMemory = Unit {0}

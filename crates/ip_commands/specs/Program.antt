@@ -1,10 +1,10 @@
 -- How the program ends, from the words after its name and the files to its output.
-use Rattle.std.specs.Prelude.{◌≡◌, ℕ, ◌⊎◌, All, List, Option, Result, Ok, Err}
+use Rattle.std.specs.Prelude.{◌≡◌, ℕ, ◌⊎◌, List, Option, Result, Ok, Err}
 use Rattle.std.specs.Io.KnownBytes.{Keeps}
 use Rattle.ip_commands.specs.Answer.{Answers}
 use Rattle.ip_commands.specs.CommandLine.{IsMisuse, IsRequest}
-use Rattle.ip_commands.specs.Files.{IsFirstBadFile, IsFirstFile, IsGoodFile}
-use Rattle.ip_commands.specs.Request.{files_of}
+use Rattle.ip_commands.specs.Files.{KeepsUnlessWriting}
+use Rattle.ip_commands.specs.Request.{IsFirstFaultOf}
 use Rattle.ip_commands.specs.declared.commands.Outcome.{Outcome}
 use Rattle.ip_commands.specs.declared.fault.Fault.{Fault}
 use Rattle.ip_commands.specs.declared.fault.Fault.TheVariants.{BadLine, CommandLine, NoMemory, NotRead, NotWritten}
@@ -18,14 +18,10 @@ module _ (bytes : List ℕ → Option (List ℕ)) (words : List (List ℕ)) (old
     -- Whether the words ask for something, and the fault is the first one in it. Nothing was
     -- written then, unless a write failed. A write comes only after each file was read as a list.
     abbrev pub EndsInFault : Fault → Type 0
-    EndsInFault (BadLine file line) = (request : Request) × IsRequest words request
-        × IsFirstBadFile bytes (files_of request) file.now line × Keeps old new
-    EndsInFault (NotRead file error) = (request : Request) × IsRequest words request
-        × IsFirstFile bytes (files_of request) file.now × Keeps old new
-    EndsInFault (NotWritten error) = (request : Request) × IsRequest words request
-        × All (IsGoodFile bytes) (files_of request)
     EndsInFault NoMemory = Keeps old new
     EndsInFault (CommandLine misuse) = IsMisuse words misuse × Keeps old new
+    EndsInFault fault = (request : Request) × IsRequest words request
+        × IsFirstFaultOf bytes request fault × KeepsUnlessWriting fault old new
 
     -- Whether a run on these words ends like this: what they ask for was answered, or there was a
     -- fault.
@@ -37,7 +33,7 @@ module _ (bytes : List ℕ → Option (List ℕ)) (words : List (List ℕ)) (old
 -- Whether the fault can come before the words are known: a failed allocation, or an argument that is
 -- not UTF-8.
 abbrev pub IsBeforeWords : Fault → Type 0
-IsBeforeWords (BadLine file line) = ⊥
+IsBeforeWords (BadLine file bad) = ⊥
 IsBeforeWords (NotRead file error) = ⊥
 IsBeforeWords (NotWritten error) = ⊥
 IsBeforeWords NoMemory = Unit {0}

@@ -27,30 +27,45 @@ range_line text first last = text first ++ codes "-" ++ text last ++ codes "\n"
 -- ---- sets of one family
 
 -- Whether the text has a line for each of the fewest blocks that have exactly the selected
--- addresses, in ascending order.
-pub record IsBlocksText {T : Type 0} (text : ℕ → List ℕ) (rank : T → ℕ) (width : ℕ)
+-- addresses, in ascending order. A sign comes before each line.
+pub record IsSignedBlocks (sign : List ℕ) {T : Type 0} (text : ℕ → List ℕ) (rank : T → ℕ) (width : ℕ)
     (selected : Selection) (lines : List ℕ) : Type 0 where
   pub blocks : List (Block T)
   pub aligned : All (IsAligned rank width) blocks
   pub fewest : AreMaximalBlocks selected (block_runs rank width blocks)
-  pub whole : lines ≡ flat_map (block_line text rank width) blocks
+  pub whole : lines ≡ flat_map (λ block. sign ++ block_line text rank width block) blocks
 
--- A line for each range.
+-- The same without signs.
+abbrev pub IsBlocksText : {T : Type 0} → (ℕ → List ℕ) → (T → ℕ) → ℕ → Selection → List ℕ → Type 0
+IsBlocksText text rank width selected lines = IsSignedBlocks [] text rank width selected lines
+
+-- A line for each range, with a sign before it.
+abbrev pub signed_ranges : List ℕ → (ℕ → List ℕ) → List Interval → List ℕ
+signed_ranges sign text runs = flat_map (λ run. sign ++ range_line text run.first run.last) runs
+
+-- The same without signs.
 abbrev pub ranges_text : (ℕ → List ℕ) → List Interval → List ℕ
-ranges_text text runs = flat_map (λ run. range_line text run.first run.last) runs
+ranges_text text runs = signed_ranges [] text runs
 
--- Whether the text is that of these runs in a form.
-abbrev pub IsFormText : {T : Type 0} → (ℕ → List ℕ) → (T → ℕ) → ℕ → Form → List Interval → List ℕ
-    → Type 0
-IsFormText text rank width Blocks runs lines = IsBlocksText text rank width (members runs) lines
-IsFormText text rank width Ranges runs lines = lines ≡ ranges_text text runs
+-- Whether the text is that of these runs in a form, with signs.
+abbrev pub IsSignedForm : List ℕ → {T : Type 0} → (ℕ → List ℕ) → (T → ℕ) → ℕ → Form
+    → List Interval → List ℕ → Type 0
+IsSignedForm sign text rank width Blocks runs lines =
+    IsSignedBlocks sign text rank width (members runs) lines
+IsSignedForm sign text rank width Ranges runs lines = lines ≡ signed_ranges sign text runs
 
--- Whether the text is that of a set in a form. The runs neither overlap nor touch, and are within
--- the number of addresses of the family.
-pub record IsSetText {T : Type 0} (text : ℕ → List ℕ) (rank : T → ℕ) (width many : ℕ) (form : Form)
-    (runs : List Interval) (lines : List ℕ) : Type 0 where
+-- Whether the text is that of a set in a form, with signs. The runs neither overlap nor touch, and
+-- are within the number of addresses of the family.
+pub record IsSignedSet (sign : List ℕ) {T : Type 0} (text : ℕ → List ℕ) (rank : T → ℕ)
+    (width many : ℕ) (form : Form) (runs : List Interval) (lines : List ℕ) : Type 0 where
   pub canonical : IsCanonicalIn many runs
-  pub written : IsFormText text rank width form runs lines
+  pub written : IsSignedForm sign text rank width form runs lines
+
+-- The same without signs.
+abbrev pub IsSetText : {T : Type 0} → (ℕ → List ℕ) → (T → ℕ) → ℕ → ℕ → Form → List Interval
+    → List ℕ → Type 0
+IsSetText text rank width many form runs lines =
+    IsSignedSet [] text rank width many form runs lines
 
 -- ---- lists
 
@@ -67,10 +82,15 @@ kept_v6 V4 runs = []
 kept_v6 V6 runs = runs
 
 -- Whether the text is that of these IPv4 addresses in a form, and then that of these IPv6
--- addresses.
-pub record IsListText (form : Form) (v4 v6 : List Interval) (text : List ℕ) : Type 0 where
+-- addresses, with signs.
+pub record IsSignedList (sign : List ℕ) (form : Form) (v4 v6 : List Interval) (text : List ℕ)
+    : Type 0 where
   pub v4_lines : List ℕ
   pub v6_lines : List ℕ
-  pub v4_written : IsSetText v4_text (λ (number : ℕ). number) 32 (2 ^ 32) form v4 v4_lines
-  pub v6_written : IsSetText v6_text (λ (number : ℕ). number) 128 (2 ^ 128) form v6 v6_lines
+  pub v4_written : IsSignedSet sign v4_text (λ (number : ℕ). number) 32 (2 ^ 32) form v4 v4_lines
+  pub v6_written : IsSignedSet sign v6_text (λ (number : ℕ). number) 128 (2 ^ 128) form v6 v6_lines
   pub whole : text ≡ v4_lines ++ v6_lines
+
+-- The same without signs.
+abbrev pub IsListText : Form → List Interval → List Interval → List ℕ → Type 0
+IsListText form v4 v6 text = IsSignedList [] form v4 v6 text

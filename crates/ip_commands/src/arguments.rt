@@ -19,7 +19,7 @@ ghost use Rattle.ip_commands.specs.CommandLine.{
 };
 
 use crate::fault::{Fault, Misuse};
-use crate::request::{Combination, Families, Form, Request};
+use crate::request::{Combination, Diff, Families, Form, Request};
 use ip_sets::Operation;
 use std::alloc::Allocator;
 use std::convert::AsStr;
@@ -133,6 +133,7 @@ fn with_option<'a>(options: Options, word: &'a str) -> Result<Options, Misuse<'a
         "--ranges" => options.form = Form::Ranges,
         "-4" => options.families = Families::V4,
         "-6" => options.families = Families::V6,
+        "-h" => options.question = Some(Question::Help),
         "--help" => options.question = Some(Question::Help),
         "--version" => options.question = Some(Question::Version),
         _ => return Err(Misuse::UnknownOption(word)),
@@ -158,6 +159,8 @@ fn request_of<'a>(options: Options, operands: &'a [&'a str]) -> Result<Request<'
         "complement" => combination(options, Operation::Complement, words),
         "count" => count(options, words),
         "has" => has(options, words),
+        "diff" => diff(options, words),
+        "check" => check(options, words),
         _ => Err(Misuse::UnknownCommand(*command)),
     }
 }
@@ -171,11 +174,11 @@ fn combination<'a>(
     ensures request { (operands : List (List ℕ))
         → IsOperation operands operation (map (λ name. name.now) files.now)
         → IfOk result (IsRequestWith options.form options.families operands) }
-    ensures misuse { IfErr result (λ misuse. (misuse ≡ Misuse.TooFewWords)
+    ensures misuse { IfErr result (λ misuse. (misuse ≡ Misuse.MissingFile)
         × (files.now ≡ [])) }
 {
     if files.is_empty() {
-        return Err(Misuse::TooFewWords);
+        return Err(Misuse::MissingFile);
     }
     Ok(Request::Combine(Combination {
         operation,
@@ -193,7 +196,7 @@ fn except<'a>(options: Options, files: &'a [&'a str]) -> Result<Request<'a>, Mis
         (codes "except" ∷ map (λ name. name.now) files.now)) }
 {
     if files.len() < 2 {
-        return Err(Misuse::TooFewWords);
+        return Err(Misuse::MissingFile);
     }
     combination(options, Operation::Except, files)
 }
@@ -206,10 +209,10 @@ fn at_least<'a>(options: Options, words: &'a [&'a str]) -> Result<Request<'a>, M
         (codes "at-least" ∷ map (λ word. word.now) words.now)) }
 {
     let [number, files @ ..] = words else {
-        return Err(Misuse::TooFewWords);
+        return Err(Misuse::MissingNumber);
     };
     if files.is_empty() {
-        return Err(Misuse::TooFewWords);
+        return Err(Misuse::MissingFile);
     }
     match number.parse::<usize>() {
         Ok(count) => combination(options, Operation::AtLeast(count), files),
@@ -225,7 +228,7 @@ fn count<'a>(options: Options, files: &'a [&'a str]) -> Result<Request<'a>, Misu
         (codes "count" ∷ map (λ name. name.now) files.now)) }
 {
     if files.is_empty() {
-        return Err(Misuse::TooFewWords);
+        return Err(Misuse::MissingFile);
     }
     Ok(Request::Count {
         families: options.families,
@@ -241,13 +244,47 @@ fn has<'a>(options: Options, words: &'a [&'a str]) -> Result<Request<'a>, Misuse
         (codes "has" ∷ map (λ word. word.now) words.now)) }
 {
     let [text, files @ ..] = words else {
-        return Err(Misuse::TooFewWords);
+        return Err(Misuse::MissingAddress);
     };
     if files.is_empty() {
-        return Err(Misuse::TooFewWords);
+        return Err(Misuse::MissingFile);
     }
     match text.parse::<IpAddr>() {
         Ok(address) => Ok(Request::Has { address, files }),
         Err(_) => Err(Misuse::NoAddress(*text)),
     }
+}
+
+// Returns what `check` and the words after it ask for.
+fn check<'a>(options: Options, files: &'a [&'a str]) -> Result<Request<'a>, Misuse<'a>>
+    ensures request { IfOk result (IsRequestWith options.form options.families
+        (codes "check" ∷ map (λ name. name.now) files.now)) }
+    ensures misuse { IfErr result (IsMisuseOfOperands
+        (codes "check" ∷ map (λ name. name.now) files.now)) }
+{
+    if files.is_empty() {
+        return Err(Misuse::MissingFile);
+    }
+    Ok(Request::Check { files })
+}
+
+// Returns what `diff` and the words after it ask for.
+fn diff<'a>(options: Options, words: &'a [&'a str]) -> Result<Request<'a>, Misuse<'a>>
+    ensures request { IfOk result (IsRequestWith options.form options.families
+        (codes "diff" ∷ map (λ word. word.now) words.now)) }
+    ensures misuse { IfErr result (IsMisuseOfOperands
+        (codes "diff" ∷ map (λ word. word.now) words.now)) }
+{
+    let [old, new, others @ ..] = words else {
+        return Err(Misuse::MissingFile);
+    };
+    if let [extra, ..] = others {
+        return Err(Misuse::ExtraWord(*extra));
+    }
+    Ok(Request::Diff(Diff {
+        form: options.form,
+        families: options.families,
+        old: *old,
+        new: *new,
+    }))
 }

@@ -4,16 +4,20 @@ ghost use Rattle.std.specs.Prelude.{◌≡◌, IfErr, IfOk, OnOk};
 ghost use Rattle.std.specs.Io.KnownBytes.{Appends};
 ghost use Rattle.ip_commands.specs.Answer.{Answers};
 ghost use Rattle.ip_commands.specs.Fault.{outcome_status};
-ghost use Rattle.ip_commands.specs.Files.{IsFirstFault, KeepsUnlessWriting};
-ghost use Rattle.ip_commands.specs.Request.{files_of};
+ghost use Rattle.ip_commands.specs.Files.{KeepsUnlessWriting};
+ghost use Rattle.ip_commands.specs.Request.{IsFirstFaultOf};
 
+mod check;
 mod combination;
 mod count;
+mod diff;
 mod has;
 mod lists;
 
+use crate::commands::check::write_reports;
 use crate::commands::combination::write_combination;
 use crate::commands::count::write_counts;
+use crate::commands::diff::write_diff;
 use crate::commands::has::write_names;
 use crate::fault::Fault;
 use crate::inputs::Inputs;
@@ -28,16 +32,21 @@ pub enum Outcome {
     Done,
     /// No list has the address.
     InNone,
+    /// The two lists differ.
+    Differs,
+    /// A list has a bad line.
+    BadLines,
 }
 
 impl Outcome {
-    /// Returns the exit status: 0 or 1.
+    /// Returns the exit status: 0, 1 or 2.
     pub fn status(self) -> u8
         ensures { result ≡ outcome_status self }
     {
         match self {
             Outcome::Done => 0,
-            Outcome::InNone => 1,
+            Outcome::InNone | Outcome::Differs => 1,
+            Outcome::BadLines => 2,
         }
     }
 }
@@ -52,7 +61,9 @@ usage: ip_lists union FILE..          addresses in at least one list
        ip_lists complement FILE..     addresses in no list
        ip_lists count FILE..          how many addresses and blocks the union has
        ip_lists has ADDRESS FILE..    which lists have the address
-options: --blocks (the default), --ranges, -4, -6, --help, --version
+       ip_lists diff OLD NEW          blocks to take out of OLD (-) and to put in (+)
+       ip_lists check FILE..          the bad lines of the lists
+options: --blocks (the default), --ranges, -4, -6, -h, --help, --version
 ";
 
 /// The program's name and version.
@@ -74,7 +85,7 @@ pub fn run<'a, A: Allocator + Copy, I: Inputs, W: Write>(
         → OnOk result (Appends (W.contents output.old) (W.contents output.new) HELP.now) }
     ensures version { request.entry ≡ Request.Version
         → OnOk result (Appends (W.contents output.old) (W.contents output.new) VERSION.now) }
-    ensures first { IfErr result (IsFirstFault (I.bytes inputs.now) (files_of request.entry)) }
+    ensures first { IfErr result (IsFirstFaultOf (I.bytes inputs.now) request.entry) }
     ensures keeps { IfErr result (λ fault.
         KeepsUnlessWriting fault (W.contents output.old) (W.contents output.new)) }
 {
@@ -86,6 +97,8 @@ pub fn run<'a, A: Allocator + Copy, I: Inputs, W: Write>(
         Request::Has { address, files } => {
             return write_names(alloc, inputs, address, files, output);
         }
+        Request::Diff(diff) => return write_diff(alloc, inputs, diff, output),
+        Request::Check { files } => return write_reports(alloc, inputs, files, output),
     }
     Ok(Outcome::Done)
 }

@@ -2,10 +2,12 @@
 
 ghost use Rattle.std.specs.Prelude.{◌≡◌, Some};
 ghost use Rattle.ip_commands.specs.declared.fault.Fault.TheVariants.{CommandLine, NoMemory, NotWritten};
-ghost use Rattle.ip_commands.specs.Fault.{fault_status, fault_text, misuse_text};
+ghost use Rattle.ip_commands.specs.Fault.{fault_status, fault_text, is_silent, misuse_text, unwritten_status};
 
+use ip_sets::BadLine;
 use std::alloc::{AllocError, AllocFailed};
 use std::error::Error;
+use std::io::ErrorKind;
 use std::{fmt, io};
 
 /// What is wrong with a command line.
@@ -21,8 +23,14 @@ pub enum Misuse<'a> {
     NoNumber(&'a str),
     /// The word after `has` is not an address.
     NoAddress(&'a str),
-    /// There are too few words after the command.
-    TooFewWords,
+    /// There is a word too many.
+    ExtraWord(&'a str),
+    /// There are too few files after the command.
+    MissingFile,
+    /// There is no word after `at-least`.
+    MissingNumber,
+    /// There is no word after `has`.
+    MissingAddress,
     /// A word is not UTF-8.
     NotText,
 }
@@ -37,7 +45,10 @@ impl fmt::Display for Misuse<'_> {
             Misuse::UnknownOption(word) => write!(f, "unknown option: {word}"),
             Misuse::NoNumber(word) => write!(f, "not a number of lists: {word}"),
             Misuse::NoAddress(word) => write!(f, "not an address: {word}"),
-            Misuse::TooFewWords => write!(f, "too few words after the command"),
+            Misuse::ExtraWord(word) => write!(f, "a word too many: {word}"),
+            Misuse::MissingFile => write!(f, "missing FILE after the command"),
+            Misuse::MissingNumber => write!(f, "missing K and FILE after the command"),
+            Misuse::MissingAddress => write!(f, "missing ADDRESS and FILE after the command"),
             Misuse::NotText => write!(f, "an argument is not UTF-8"),
         }
     }
@@ -46,9 +57,9 @@ impl fmt::Display for Misuse<'_> {
 /// The first fault.
 #[derive(Debug, Drop)]
 pub enum Fault<'a> {
-    /// A line of a list is neither blank nor an address, a block or a range. Lines are counted from
-    /// 1.
-    BadLine { file: &'a str, line: u64 },
+    /// A line of a list is neither blank nor an address, a block or a range. This is the first such
+    /// line.
+    BadLine { file: &'a str, bad: BadLine },
     /// A list could not be read.
     NotRead { file: &'a str, error: io::Error },
     /// The answer could not be written.
@@ -60,16 +71,37 @@ pub enum Fault<'a> {
 }
 
 impl Fault<'_> {
-    /// Returns the exit status of the fault.
+    /// Returns the exit status of the fault: 0 if the reader of the output went away.
     pub fn status(&self) -> u8
         ensures { result ≡ fault_status self.now }
     {
         match self {
             Fault::BadLine { .. } => 2,
             Fault::NoMemory => 3,
-            Fault::NotRead { .. } | Fault::NotWritten(_) => 4,
+            Fault::NotRead { .. } => 4,
+            Fault::NotWritten(error) => unwritten_status(error.kind()),
             Fault::CommandLine(_) => 64,
         }
+    }
+
+    /// Returns whether the reader of the output went away, as `head` does. This is not reported.
+    pub fn is_silent(&self) -> bool
+        ensures { result ≡ is_silent self.now }
+    {
+        match self {
+            Fault::NotWritten(error) => unwritten_status(error.kind()) == 0,
+            _ => false,
+        }
+    }
+}
+
+// Returns the exit status after a write that failed with an error of a kind.
+fn unwritten_status(kind: ErrorKind) -> u8
+    ensures { result ≡ unwritten_status kind }
+{
+    match kind {
+        ErrorKind::BrokenPipe => 0,
+        _ => 4,
     }
 }
 
@@ -78,9 +110,7 @@ impl fmt::Display for Fault<'_> {
 
     fn fmt<W: fmt::Write>(&self, f: &mut fmt::Formatter<W>) -> fmt::Result {
         match self {
-            Fault::BadLine { file, line } => {
-                write!(f, "{file}:{line}: not an address, block or range")
-            }
+            Fault::BadLine { file, bad } => write!(f, "{file}:{bad}"),
             Fault::NotRead { file, error } => write!(f, "{file}: {error}"),
             Fault::NotWritten(error) => write!(f, "output: {error}"),
             Fault::NoMemory => write!(f, "ip_lists: no memory"),

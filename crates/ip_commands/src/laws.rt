@@ -1,10 +1,12 @@
 //! Laws of what is written. Each function does nothing, and its clauses are the law.
 
-ghost use Rattle.std.specs.Prelude.{◌≡◌, ℕ, [], List, Option, Some, map};
+ghost use Rattle.std.specs.Prelude.{◌≡◌, ℕ, ◌^◌, [], List, Option, Some, map};
 ghost use Rattle.std.specs.declared.net.ip_addr.IpAddr.{IpAddr};
 ghost use Rattle.range_set_blaze.specs.Runs.{Interval, members};
+ghost use Rattle.range_set_blaze.specs.Selection.{Agree, difference, union};
 ghost use Rattle.ip_sets.specs.List.{IsListOf};
-ghost use Rattle.ip_commands.specs.Answer.{Answers, IsCombined, IsCounted, IsFound};
+ghost use Rattle.ip_commands.specs.Answer.{Answers, IsCombined, IsCounted, IsDiffText, IsFound};
+ghost use Rattle.ip_commands.specs.Files.{Selected};
 ghost use Rattle.ip_commands.specs.ReadBack.{AreKnown, ReadsAsCombined};
 ghost use Rattle.ip_commands.specs.Text.{IsListText};
 ghost use Rattle.ip_commands.specs.declared.commands.Outcome.{Outcome};
@@ -40,6 +42,18 @@ pub fn answer_reads_back()
         (outcome : Outcome) (text : List ℕ)
         → Answers bytes (Combine combination) outcome (Some []) (Some text)
         → ReadsAsCombined bytes combination text }
+{}
+
+/// If what `diff` takes out of the old list is left out, and what it puts in is added, the result is
+/// the new list.
+pub fn diff_applies()
+    ensures v4 { (form : Form) (families : Families) (old new : Selected) (text : List ℕ)
+        → (diff : IsDiffText form families old new text)
+        → Agree (2 ^ 32) (union (difference old.v4 (members diff.out4)) (members diff.in4)) new.v4 }
+    ensures v6 { (form : Form) (families : Families) (old new : Selected) (text : List ℕ)
+        → (diff : IsDiffText form families old new text)
+        → Agree (2 ^ 128) (union (difference old.v6 (members diff.out6)) (members diff.in6))
+        new.v6 }
 {}
 
 /// The answer to a command is determined by the bytes of the files, if these are known.

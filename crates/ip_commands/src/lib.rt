@@ -19,9 +19,9 @@ pub use crate::commands::{HELP, Outcome, VERSION, run};
 pub use crate::fault::{Fault, Misuse};
 pub use crate::inputs::Inputs;
 pub use crate::laws::{
-    answer_is_unique, answer_reads_back, output_is_written_again, output_reads_back,
+    answer_is_unique, answer_reads_back, diff_applies, output_is_written_again, output_reads_back,
 };
 pub use crate::process::start_from_env;
 pub use crate::program::{finish, start};
-pub use crate::request::{Combination, Families, Form, Request};
+pub use crate::request::{Combination, Diff, Families, Form, Request};
 pub use crate::system::{Source, SystemInputs};

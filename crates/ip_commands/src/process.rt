@@ -1,11 +1,11 @@
 //! The program with the arguments of its process.
 
-ghost use Rattle.std.specs.Prelude.{◌≡◌, ◌≢◌, IfErr, IsOk, Result};
+ghost use Rattle.std.specs.Prelude.{◌≡◌, ◌≢◌, IfErr, Result};
 ghost use Rattle.std.specs.Io.KnownBytes.{Keeps};
 ghost use Rattle.std.specs.Process.{exit_status};
 ghost use Rattle.std.specs.IoError.{error_kind};
 ghost use Rattle.std.specs.declared.io.ErrorKind.{ErrorKind};
-ghost use Rattle.ip_commands.specs.Fault.{status_after};
+ghost use Rattle.ip_commands.specs.Fault.{IsQuiet, status_after};
 ghost use Rattle.ip_commands.specs.Program.{EndsOnSomeWords, IsBeforeWords};
 ghost use Rattle.ip_commands.specs.declared.commands.Outcome.{Outcome};
 ghost use Rattle.ip_commands.specs.declared.fault.Fault.{Fault};
@@ -31,7 +31,7 @@ where
     ensures ends { (end : Result Outcome Fault)
         × EndsOnSomeWords (I.bytes inputs.now) (W.contents output.old) (W.contents output.new) end
         × (exit_status result ≡ status_after end)
-        × (IsOk end → Keeps (E.contents errors.old) (E.contents errors.new)) }
+        × (IsQuiet end → Keeps (E.contents errors.old) (E.contents errors.new)) }
 {
     match words_of(rt) {
         Ok(words) => start(rt.alloc(), &words, inputs, output, errors),

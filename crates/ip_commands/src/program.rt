@@ -1,10 +1,10 @@
 //! The program, from its command line and inputs to its output and exit status.
 
-ghost use Rattle.std.specs.Prelude.{◌≡◌, ℕ, IsOk, List, Result, map};
+ghost use Rattle.std.specs.Prelude.{◌≡◌, ℕ, List, Result, map};
 ghost use Rattle.std.specs.Io.KnownBytes.{Keeps};
 ghost use Rattle.std.specs.Process.{exit_status};
 ghost use Rattle.ip_commands.specs.CommandLine.{AreArguments};
-ghost use Rattle.ip_commands.specs.Fault.{status_after};
+ghost use Rattle.ip_commands.specs.Fault.{IsQuiet, status_after};
 ghost use Rattle.ip_commands.specs.Program.{Ends};
 ghost use Rattle.ip_commands.specs.declared.commands.Outcome.{Outcome};
 ghost use Rattle.ip_commands.specs.declared.fault.Fault.{Fault};
@@ -31,7 +31,7 @@ pub fn start<A: Allocator + Copy, S: AsStr, I: Inputs, W: Write, E: Write>(
         × Ends (I.bytes inputs.now) (map S.text words.now) (W.contents output.old)
         (W.contents output.new) end
         × (exit_status result ≡ status_after end)
-        × (IsOk end → Keeps (E.contents errors.old) (E.contents errors.new)) }
+        × (IsQuiet end → Keeps (E.contents errors.old) (E.contents errors.new)) }
 {
     match Arguments::new(alloc, words) {
         Ok(arguments) => finish(errors, answer(alloc, &arguments, inputs, output)),
@@ -55,17 +55,20 @@ fn answer<'s, 'a, A: Allocator + Copy, I: Inputs, W: Write>(
     Ok(outcome)
 }
 
-/// Returns the exit status of an outcome, and writes a line for a fault. If that line cannot be
-/// written in full, the status is the same, as there is nowhere left to report it.
+/// Returns the exit status of an outcome, and writes a line for a fault, unless the reader of the
+/// output went away. If that line cannot be written in full, the status is the same, as there is
+/// nowhere left to report it.
 pub fn finish<E: Write>(errors: &mut E, outcome: Result<Outcome, Fault<'_>>) -> ExitCode
     ensures status { exit_status result ≡ status_after outcome.entry }
-    ensures quiet { IsOk outcome.entry
+    ensures quiet { IsQuiet outcome.entry
         → Keeps (E.contents errors.old) (E.contents errors.new) }
 {
     match outcome {
         Ok(outcome) => ExitCode::from(outcome.status()),
         Err(fault) => {
-            let _ = writeln!(errors, "{fault}");
+            if !fault.is_silent() {
+                let _ = writeln!(errors, "{fault}");
+            }
             ExitCode::from(fault.status())
         }
     }

@@ -37,6 +37,19 @@ pub struct Combination<'a> {
     pub files: &'a [&'a str],
 }
 
+/// What differs between the lists of two files.
+#[derive(Clone, Copy, Debug)]
+pub struct Diff<'a> {
+    /// How the addresses are written.
+    pub form: Form,
+    /// Which of them are compared and written.
+    pub families: Families,
+    /// The name of the file with the old list.
+    pub old: &'a str,
+    /// The name of the file with the new list.
+    pub new: &'a str,
+}
+
 /// What a command line asks for.
 #[derive(Clone, Copy, Debug)]
 pub enum Request<'a> {
@@ -54,6 +67,12 @@ pub enum Request<'a> {
     /// Which lists have an address.
     Has {
         address: IpAddr,
+        files: &'a [&'a str],
+    },
+    /// What differs between two lists.
+    Diff(Diff<'a>),
+    /// Which lines of lists are bad.
+    Check {
         files: &'a [&'a str],
     },
 }

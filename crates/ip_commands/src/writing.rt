@@ -9,10 +9,10 @@ ghost use Rattle.rsb_streams.specs.Stream.{◌⊆◌};
 ghost use Rattle.ip_sets.specs.Address.{v4_text, v6_text};
 ghost use Rattle.ip_commands.specs.Page.{Lays};
 ghost use Rattle.ip_commands.specs.Selection.{WritesSelected};
-ghost use Rattle.ip_commands.specs.Text.{IsSetText, block_line, range_line};
+ghost use Rattle.ip_commands.specs.Text.{IsSignedSet, block_line, range_line};
 
-use crate::page::{PAGE, Page, ROOM, make_room, send};
-use crate::request::{Combination, Families, Form};
+use crate::page::{PAGE, Page, ROOM, lay, make_room, send};
+use crate::request::{Families, Form};
 use crate::text::{LONGEST, lay_length, lay_v4, lay_v6};
 use ip_sets::{Address, Block, IntoBlocks};
 use range_set_blaze::{Draw, DrawDisjoint};
@@ -50,31 +50,41 @@ impl AddressText for u128 {
     }
 }
 
-/// Writes the addresses of two ready streams in the form and of the families of a combination: IPv4
-/// and then IPv6, ascending, with a block or a range on each line. It does not allocate, unless the
-/// writer or a stream does. If a write fails, part of the text may have been written.
+/// How the lines of addresses are written: a sign before each, in which form, and of which families.
+#[derive(Clone, Copy)]
+pub(crate) struct Style<'a> {
+    /// One byte at most.
+    pub(crate) sign: &'a [u8],
+    pub(crate) form: Form,
+    pub(crate) families: Families,
+}
+
+/// Writes the addresses of two ready streams in a style: IPv4 and then IPv6, ascending, with a block
+/// or a range on each line. It does not allocate, unless the writer or a stream does. If a write
+/// fails, part of the text may have been written.
 pub(crate) fn write_streams<'a, W: Write, F: DrawDisjoint<u32>, S: DrawDisjoint<u128>>(
     output: &mut W,
     v4: F,
     v6: S,
-    combination: Combination<'a>,
+    style: Style<'a>,
 ) -> io::Result<()>
     requires v4 { F.can_draw v4 }
     requires v6 { S.can_draw v6 }
+    requires sign { length style.sign.now ≤ 1 }
     ensures { (these those : Selection) → F.may_give v4 ⊆ AreRuns (2 ^ 32) these
         → S.may_give v6 ⊆ AreRuns (2 ^ 128) those
-        → OnOk result (WritesSelected combination.entry.form
-        combination.entry.families these those
-        (W.contents output.old) (W.contents output.new)) }
+        → OnOk result (WritesSelected style.entry.sign.now style.entry.form style.entry.families
+        these those (W.contents output.old) (W.contents output.new)) }
 {
-    let form = combination.form;
-    match combination.families {
+    let sign = style.sign;
+    let form = style.form;
+    match style.families {
         Families::Both => {
-            write_ranges(output, v4, form)?;
-            write_ranges(output, v6, form)
+            write_ranges(output, v4, sign, form)?;
+            write_ranges(output, v6, sign, form)
         }
-        Families::V4 => write_ranges(output, v4, form),
-        Families::V6 => write_ranges(output, v6, form),
+        Families::V4 => write_ranges(output, v4, sign, form),
+        Families::V6 => write_ranges(output, v6, sign, form),
     }
 }
 
@@ -82,15 +92,17 @@ pub(crate) fn write_streams<'a, W: Write, F: DrawDisjoint<u32>, S: DrawDisjoint<
 fn write_ranges<T: AddressText, W: Write, I: DrawDisjoint<T>>(
     output: &mut W,
     ranges: I,
+    sign: &[u8],
     form: Form,
 ) -> io::Result<()>
-    requires { I.can_draw ranges }
+    requires ready { I.can_draw ranges }
+    requires sign { length sign.now ≤ 1 }
     ensures { OnOk result ((runs : List Interval) × I.may_give ranges runs × ((text : List ℕ)
-        × IsSetText T.text T.rank T.width T.value_count form runs text
+        × IsSignedSet sign.now T.text T.rank T.width T.value_count form runs text
         × Appends (W.contents output.old) (W.contents output.new) text)) }
 {
     let mut page = Page::new();
-    lay_stream(output, &mut page, ranges, form)?;
+    lay_stream(output, &mut page, ranges, sign, form)?;
     send(output, &mut page)
 }
 
@@ -99,17 +111,19 @@ fn lay_stream<T: AddressText, W: Write, I: DrawDisjoint<T>>(
     output: &mut W,
     page: &mut Page,
     ranges: I,
+    sign: &[u8],
     form: Form,
 ) -> io::Result<()>
-    requires { I.can_draw ranges }
+    requires ready { I.can_draw ranges }
+    requires sign { length sign.now ≤ 1 }
     ensures { OnOk result ((runs : List Interval) × I.may_give ranges runs × ((text : List ℕ)
-        × IsSetText T.text T.rank T.width T.value_count form runs text
+        × IsSignedSet sign.now T.text T.rank T.width T.value_count form runs text
         × Lays (W.contents output.old) (W.contents output.new)
         page.old.items page.new.items text)) }
 {
     match form {
-        Form::Blocks => lay_blocks(output, page, ranges),
-        Form::Ranges => lay_ranges(output, page, ranges),
+        Form::Blocks => lay_blocks(output, page, ranges, sign),
+        Form::Ranges => lay_ranges(output, page, ranges, sign),
     }
 }
 
@@ -118,27 +132,32 @@ fn lay_blocks<T: AddressText, W: Write, I: DrawDisjoint<T>>(
     output: &mut W,
     page: &mut Page,
     ranges: I,
+    sign: &[u8],
 ) -> io::Result<()>
-    requires { I.can_draw ranges }
+    requires ready { I.can_draw ranges }
+    requires sign { length sign.now ≤ 1 }
     ensures { OnOk result ((runs : List Interval) × I.may_give ranges runs × ((text : List ℕ)
-        × IsSetText T.text T.rank T.width T.value_count Form.Blocks runs text
+        × IsSignedSet sign.now T.text T.rank T.width T.value_count Form.Blocks runs text
         × Lays (W.contents output.old) (W.contents output.new)
         page.old.items page.new.items text)) }
 {
     for block in ranges.blocks() {
         make_room(output, page)?;
-        lay_block(page, block);
+        lay_block(page, sign, block);
     }
     Ok(())
 }
 
-// Adds a block to a page as a line, for which there must be room. A block of one address is written
+// Adds a sign and a block to a page as a line, for which there must be room. A block of one address is written
 // as that address.
 #[inline]
-fn lay_block<T: AddressText>(page: &mut Page, block: Block<T>)
-    requires { length page.old.items + ROOM ≤ PAGE }
-    ensures { page.new.items ≡ page.old.items ++ block_line T.text T.rank T.width block }
+fn lay_block<T: AddressText>(page: &mut Page, sign: &[u8], block: Block<T>)
+    requires room { length page.old.items + ROOM ≤ PAGE }
+    requires sign { length sign.now ≤ 1 }
+    ensures { page.new.items
+        ≡ page.old.items ++ (sign.now ++ block_line T.text T.rank T.width block) }
 {
+    lay(page, sign);
     let length = block.length;
     if length == T::bits() {
         block.first.lay(page, b'\n');
@@ -153,29 +172,33 @@ fn lay_ranges<T: AddressText, W: Write, I: DrawDisjoint<T>>(
     output: &mut W,
     page: &mut Page,
     ranges: I,
+    sign: &[u8],
 ) -> io::Result<()>
-    requires { I.can_draw ranges }
+    requires ready { I.can_draw ranges }
+    requires sign { length sign.now ≤ 1 }
     ensures { OnOk result ((runs : List Interval) × I.may_give ranges runs × ((text : List ℕ)
-        × IsSetText T.text T.rank T.width T.value_count Form.Ranges runs text
+        × IsSignedSet sign.now T.text T.rank T.width T.value_count Form.Ranges runs text
         × Lays (W.contents output.old) (W.contents output.new)
         page.old.items page.new.items text)) }
 {
     let mut ranges = ranges;
     while let Some(range) = ranges.draw() {
         make_room(output, page)?;
-        lay_range(page, range);
+        lay_range(page, sign, range);
     }
     Ok(())
 }
 
-// Adds a range to a page as a line, for which there must be room: its first and its last address,
-// with a dash between them.
+// Adds a sign and a range to a page as a line, for which there must be room: its first and its last
+// address, with a dash between them.
 #[inline]
-fn lay_range<T: AddressText>(page: &mut Page, range: RangeInclusive<T>)
-    requires { length page.old.items + ROOM ≤ PAGE }
-    ensures { page.new.items ≡ page.old.items ++ range_line T.text
-        (T.rank (range_inclusive_start range)) (T.rank (range_inclusive_end range)) }
+fn lay_range<T: AddressText>(page: &mut Page, sign: &[u8], range: RangeInclusive<T>)
+    requires room { length page.old.items + ROOM ≤ PAGE }
+    requires sign { length sign.now ≤ 1 }
+    ensures { page.new.items ≡ page.old.items ++ (sign.now ++ range_line T.text
+        (T.rank (range_inclusive_start range)) (T.rank (range_inclusive_end range))) }
 {
+    lay(page, sign);
     let (first, last) = range.into_inner();
     first.lay(page, b'-');
     last.lay(page, b'\n');

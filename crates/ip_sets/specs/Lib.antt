@@ -3,6 +3,7 @@ pub mod AddressLaws
 pub mod AddressRange
 pub mod Blocks
 pub mod BlocksLeft
+pub mod Excerpt
 pub mod Gathering
 pub mod Groups
 pub mod Line
@@ -12,4 +13,5 @@ pub mod ListFault
 pub mod Operation
 pub mod Pairs
 pub mod Plain
+pub mod Reason
 pub mod Selection

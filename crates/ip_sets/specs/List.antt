@@ -1,9 +1,12 @@
 -- What a list of addresses selects, line by line.
-use Rattle.std.specs.Prelude.{◌≡◌, ◌⊎◌, ◌↔◌, ℕ, ◌+◌, ◌≤◌, ◌++◌, All, Any, Bool, IsTrue, List, ◌∷◌, Option, Some, filter, length, map, nat_lt}
+use Rattle.std.specs.Prelude.{◌≡◌, ◌⊎◌, ◌↔◌, ℕ, ◌+◌, ◌≤◌, ◌++◌, All, Any, Bool, IsTrue, List, [], ◌∷◌, Option, Some, codes, decimal, filter, flat_map, length, map, nat_lt}
 use Rattle.std.specs.Str.Lines.{lines}
 use Rattle.range_set_blaze.specs.Selection.{Selection}
 use Rattle.ip_sets.specs.declared.line.Line.{Line}
+use Rattle.ip_sets.specs.declared.list.bad_line.BadLine.{BadLine}
+use Rattle.ip_sets.specs.Excerpt.{excerpt, excerpt_of}
 use Rattle.ip_sets.specs.Line.{IsLine, MeansV4, MeansV6, content}
+use Rattle.ip_sets.specs.Reason.{IsReason, reason_text}
 
 -- ---- lines
 
@@ -43,26 +46,65 @@ pub record IsListOf (bytes : List ℕ) (v4 v6 : Selection) : Type 0 where
   pub v4_addresses : AreAddressesOf MeansV4 (lines bytes) v4
   pub v6_addresses : AreAddressesOf MeansV6 (lines bytes) v6
 
--- Whether the line with this number, counted from 1, is the first that has no meaning.
-pub record IsFirstBadLine (bytes : List ℕ) (number : ℕ) : Type 0 where
+-- Whether the line with this number has no meaning, and this is reported of it: its number, a reason
+-- that holds of its content, and the start of that content.
+pub record IsReportOf (bad : BadLine) (number : ℕ) (line : List ℕ) : Type 0 where
+  pub is_bad : IsBadLine line
+  pub counted : bad.number ≡ number
+  pub reason : IsReason bad.reason (content line)
+  pub text : excerpt_of bad.text ≡ excerpt (content line)
+
+-- Whether these are the reports of the lines without a meaning, in order, if the first line has this
+-- number.
+abbrev pub AreReportsFrom : ℕ → List (List ℕ) → List BadLine → Type 0
+AreReportsFrom number [] reports = reports ≡ []
+AreReportsFrom number (line ∷ list) reports =
+    (IsGoodLine line × AreReportsFrom (number + 1) list reports)
+    ⊎ ((bad : BadLine) × (others : List BadLine) × (reports ≡ bad ∷ others)
+    × IsReportOf bad number line × AreReportsFrom (number + 1) list others)
+
+-- Whether these are the reports of the lines without a meaning, and the other lines together mean
+-- exactly these IPv4 and IPv6 addresses. Lines are counted from 1.
+pub record IsListPast (bytes : List ℕ) (reports : List BadLine) (v4 v6 : Selection) : Type 0 where
+  pub reported : AreReportsFrom 1 (lines bytes) reports
+  pub v4_addresses : AreAddressesOf MeansV4 (lines bytes) v4
+  pub v6_addresses : AreAddressesOf MeansV6 (lines bytes) v6
+
+-- Whether the report is that of the first line that has no meaning.
+pub record IsFirstBadLine (bytes : List ℕ) (bad : BadLine) : Type 0 where
   pub before : List (List ℕ)
   pub line : List ℕ
   pub after : List (List ℕ)
   pub parts : lines bytes ≡ before ++ line ∷ after
-  pub counted : number ≡ length before + 1
-  pub bad : IsBadLine line
+  pub report : IsReportOf bad (length before + 1) line
   pub first : All IsGoodLine before
 
--- Whether the line with this number is the first that has no meaning, and the last bytes, the rest,
+-- Whether the report is that of the first line that has no meaning, and the last bytes, the rest,
 -- are the lines after it.
-abbrev pub IsPastBadLine : List ℕ → List ℕ → ℕ → Type 0
-IsPastBadLine bytes rest number =
-    (bad : IsFirstBadLine bytes number) × (bad.after ≡ lines rest)
+abbrev pub IsPastBadLine : List ℕ → List ℕ → BadLine → Type 0
+IsPastBadLine bytes rest bad =
+    (first : IsFirstBadLine bytes bad) × (first.after ≡ lines rest)
 
--- Whether the bytes that are left are the lines after the first bad one, which has this number.
-abbrev pub LeavesPastBadLine : List ℕ → Option (List ℕ) → ℕ → Type 0
-LeavesPastBadLine bytes left number =
-    (rest : List ℕ) × (left ≡ Some rest) × IsPastBadLine bytes rest number
+-- Whether the bytes that are left are the lines after the first bad one, of which this is the
+-- report.
+abbrev pub LeavesPastBadLine : List ℕ → Option (List ℕ) → BadLine → Type 0
+LeavesPastBadLine bytes left bad =
+    (rest : List ℕ) × (left ≡ Some rest) × IsPastBadLine bytes rest bad
+
+-- ---- reports in words
+
+-- A report in words: the number of the line, the reason and the text.
+abbrev pub bad_line_text : BadLine → List ℕ
+bad_line_text bad =
+    decimal bad.number ++ codes ": " ++ reason_text bad.reason ++ codes ": " ++ excerpt_of bad.text
+
+-- The line of a report about a list with this name.
+abbrev pub report_line : List ℕ → BadLine → List ℕ
+report_line name bad = name ++ (codes ":" ++ (bad_line_text bad ++ codes "\n"))
+
+-- The lines of reports.
+abbrev pub reports_text : List ℕ → List BadLine → List ℕ
+reports_text name reports = flat_map (report_line name) reports
 
 -- ---- what does not count
 

@@ -14,9 +14,10 @@ pub mod text;
 pub use crate::blocks::{
     Address, Block, Blocks, IntoBlocks, blocks_of, maximal_blocks_are_fewest, set_blocks,
 };
-pub use crate::line::{Line, parse_line};
+pub use crate::line::{Line, Reason, parse_line};
 pub use crate::list::{
-    AddressList, ListFault, comments_select_nothing, list_selects_one, read_list,
+    AddressList, BadLine, Excerpt, ListFault, comments_select_nothing, list_selects_one, read_list,
+    read_list_past_bad_lines,
 };
 pub use crate::operations::{Operation, combine};
 pub use crate::set::{AddressRanges, AddressSet};

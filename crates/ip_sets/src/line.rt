@@ -13,10 +13,12 @@ pub(crate) mod parts;
 pub(crate) mod plain;
 pub(crate) mod prefix;
 pub(crate) mod range;
+pub(crate) mod reasons;
 
 use crate::line::parts::trimmed;
 use crate::line::plain::plain_line;
 use crate::line::range::range;
+pub use crate::line::reasons::Reason;
 use memchr::memchr;
 use std::ops::RangeInclusive;
 
@@ -80,8 +82,8 @@ pub(crate) fn first_line(bytes: &[u8]) -> Option<FirstLine<'_>>
     Some(FirstLine { meaning, rest })
 }
 
-// Returns what the line has before its comment, without the white space around it.
-fn content(line: &[u8]) -> &[u8]
+/// Returns what the line has before its comment, without the white space around it.
+pub(crate) fn content(line: &[u8]) -> &[u8]
     ensures { result.now ≡ content line.now }
 {
     match comment(line) {

@@ -1,21 +1,24 @@
 //! A list of addresses, read line by line.
 
-ghost use Rattle.std.specs.Prelude.{◌≡◌, ℕ, ◌+◌, ◌≤◌, [], Err, IfOk, IfSome, OnOk, Some, length};
+ghost use Rattle.std.specs.Prelude.{◌≡◌, ◌≢◌, ◌+◌, ◌≤◌, ◌++◌, [], Err, IfOk, IfSome, List, OnOk, Some, length};
 ghost use Rattle.std.specs.Str.Lines.{lines};
 ghost use Rattle.range_set_blaze.specs.Runs.{members};
-ghost use Rattle.ip_sets.specs.List.{IsFirstBadLine, IsListOf, LeavesPastBadLine};
+ghost use Rattle.ip_sets.specs.List.{IsFirstBadLine, IsListOf, IsListPast, LeavesPastBadLine, reports_text};
 
+pub(crate) mod bad_line;
+pub(crate) mod excerpt;
 pub(crate) mod fault;
 mod gathered;
 mod laws;
 
-use crate::line::parse_line;
 use crate::set::AddressSet;
+pub use bad_line::BadLine;
+pub use excerpt::Excerpt;
 pub use fault::ListFault;
 use gathered::{Gathered, too_many_lines};
 pub use laws::{comments_select_nothing, list_selects_one};
 use std::alloc::{Allocator, Global};
-use std::io::BufRead;
+use std::io::{BufRead, Write};
 
 /// The addresses of a list: IPv4 and IPv6.
 #[derive(Debug, Drop)]
@@ -30,9 +33,9 @@ pub struct AddressList<A: Allocator = Global> {
 /// (`parse_line`). While reading, it holds one range per line with addresses, and any line that is
 /// cut by the end of the buffer.
 ///
-/// `BadLine` has the number of the first bad line; what follows that line is not read. `NoMemory`
-/// is returned if an allocation fails, including one made by a read. `Io` has the error of a read
-/// that fails. It is also returned if there are 2^64 - 1 lines or more.
+/// `BadLine` has the first bad line; what follows that line is not read. `NoMemory` is returned if
+/// an allocation fails, including one made by a read. `Io` has the error of a read that fails. It is
+/// also returned if there are 2^64 - 1 lines or more.
 pub fn read_list<A: Allocator + Copy, R: BufRead>(
     alloc: A,
     input: &mut R,
@@ -43,23 +46,42 @@ pub fn read_list<A: Allocator + Copy, R: BufRead>(
         length list.v4 + length list.v6 ≤ length (lines bytes))) }
     ensures end { OnOk result (IfSome (R.remaining input.old) (λ bytes.
         R.remaining input.new ≡ Some [])) }
-    ensures bad_line { (number : ℕ) → result ≡ Err (ListFault.BadLine number)
-        → IfSome (R.remaining input.old) (λ bytes. IsFirstBadLine bytes number) }
-    ensures left { (number : ℕ) → result ≡ Err (ListFault.BadLine number)
+    ensures bad_line { (bad : BadLine) → result ≡ Err (ListFault.BadLine bad)
+        → IfSome (R.remaining input.old) (λ bytes. IsFirstBadLine bytes bad) }
+    ensures left { (bad : BadLine) → result ≡ Err (ListFault.BadLine bad)
         → IfSome (R.remaining input.old) (λ bytes.
-        LeavesPastBadLine bytes (R.remaining input.new) number) }
+        LeavesPastBadLine bytes (R.remaining input.new) bad) }
+{
+    let mut gathered = Gathered::new(alloc);
+    let mut line = Vec::new(alloc);
+    gathered.read_on(input, &mut line)?;
+    Ok(gathered.list())
+}
+
+/// Reads a list as `read_list` does, but goes on past bad lines. It adds a line for each to `told`:
+/// the name of the list, a colon, and the bad line as text.
+///
+/// After an error, `told` has lines for some of them.
+pub fn read_list_past_bad_lines<A: Allocator + Copy, R: BufRead>(
+    alloc: A,
+    input: &mut R,
+    name: &str,
+    told: &mut Vec<u8, A>,
+) -> Result<AddressList<A>, ListFault>
+    ensures list { IfOk result (λ list. (reports : List BadLine)
+        × (told.new.items ≡ told.old.items ++ reports_text name.now reports)
+        × IfSome (R.remaining input.old) (λ bytes.
+        IsListPast bytes reports (members list.v4) (members list.v6))) }
+    ensures bad_line { (bad : BadLine) → result ≢ Err (ListFault.BadLine bad) }
 {
     let mut gathered = Gathered::new(alloc);
     let mut line = Vec::new(alloc);
     for _ in 0..u64::MAX {
-        gathered.add_buffered(input)?;
-        // What is left of the buffer is the start of a line, which ends in another part of the
-        // input.
-        line.clear();
-        if input.read_until(b'\n', &mut line)? == 0 {
-            return Ok(gathered.list());
+        match gathered.read_on(input, &mut line) {
+            Ok(()) => return Ok(gathered.list()),
+            Err(ListFault::BadLine(bad)) => writeln!(told, "{name}:{bad}")?,
+            Err(fault) => return Err(fault),
         }
-        gathered.add_line(parse_line(&line))?;
     }
     Err(too_many_lines())
 }

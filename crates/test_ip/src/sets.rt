@@ -1,6 +1,7 @@
 //! Tests of lists of addresses.
 
 mod address_set;
+mod bad_lines;
 mod blocks;
 mod laws;
 mod lines;

@@ -26,7 +26,7 @@ same-v6 (list ∷ lists) = ap (λ others. members list.v6 ∷ others) (same-v6 l
 pub combined : {A : Type 0} (bytes : List ℕ → Option (List ℕ)) (combination : Combination)
     (lists given : List (AddressList A)) (old new : Option (List ℕ)) → given ≡ lists
     → AreFilesOf bytes (map (λ name. name.now) combination.files.now) (map selected lists)
-    → WritesSelected combination.form combination.families
+    → WritesSelected [] combination.form combination.families
     (selected_by combination.operation (map members (map (λ list. list.v4) given)))
     (selected_by combination.operation (map members (map (λ list. list.v6) given))) old new
     → (text : List ℕ) × IsCombined bytes combination text × Appends old new text

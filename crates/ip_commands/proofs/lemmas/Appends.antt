@@ -23,6 +23,14 @@ Appends-then (Some before) (Some between) None xs ys first second = absurd secon
 Appends-then (Some before) (Some between) (Some after) xs ys first second =
     second ∙ ap (λ v. v ++ ys) first ∙ append_assoc before xs ys
 
+-- If nothing changes after a part was written, that part was written.
+pub Appends-kept : (old mid new : Option (List ℕ)) (xs : List ℕ) → Appends old mid xs
+    → Keeps mid new → Appends old new xs
+Appends-kept None mid new xs first keeps = tt
+Appends-kept (Some before) None new xs first keeps = absurd first
+Appends-kept (Some before) (Some between) None xs first keeps = absurd keeps
+Appends-kept (Some before) (Some between) (Some after) xs first keeps = keeps ∙ first
+
 -- If the line of one more item was written after those of the items before it, all were written.
 pub Appends-item : {X : Type 0} (line : X → List ℕ) (old mid new : Option (List ℕ))
     (items : List X) (item : X) → Appends old mid (flat_map line items)

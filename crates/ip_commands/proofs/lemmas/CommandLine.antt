@@ -12,7 +12,7 @@ use Rattle.std.specs.Prelude.{Err, IfErr, IfOk, MatchResult, Ok, Result, ◌==�
 use Rattle.ip_commands.specs.CommandLine.{AreArguments, IsMisuseOfOperands, IsRequestWith, after_mark, before_mark, families_asked, first_unknown, form_asked, is_dashed, is_known, is_mark, operands_of, options_of, question_asked, words_needed}
 use Rattle.ip_commands.specs.declared.arguments.Arguments.{Arguments}
 use Rattle.ip_commands.specs.declared.fault.Misuse.{Misuse}
-use Rattle.ip_commands.specs.declared.fault.Misuse.TheVariants.{TooFewWords}
+use Rattle.ip_commands.specs.declared.fault.Misuse.TheVariants.{MissingFile}
 use Rattle.ip_commands.specs.declared.request.Families.{Families}
 use Rattle.ip_commands.specs.declared.request.Families.TheVariants.{Both}
 use Rattle.ip_commands.specs.declared.request.Form.{Form}
@@ -226,6 +226,26 @@ first-rest f [] default some = absurd (omega (arith, some))
 first-rest f (x ∷ xs) default some =
     ap (λ rest. f x ∷ map f rest) (sym (take_all (suc (length xs) - 1) xs (omega arith)))
 
+-- The first two words of a slice, the third, and the others.
+pub third-word : (words : List (Bor (List ℕ))) (default : Bor (List ℕ)) → 2 ≤ length words
+    → 1 ≤ length (take (length words - 2) (drop 2 words))
+    → (first : List ℕ) × (second : List ℕ) × (others : List (List ℕ))
+    × (map (λ word. word.now) words ≡ first ∷ second
+    ∷ (slice_index_or (take (length words - 2) (drop 2 words)) 0 default).now ∷ others)
+third-word [] default two more = absurd (omega (arith, two))
+third-word (first ∷ []) default two more = absurd (omega (arith, two))
+third-word (first ∷ second ∷ words) default two more =
+    let now : Bor (List ℕ) → List ℕ = λ word. word.now in
+    let count = length (first ∷ second ∷ words) - 2 in
+    let rest = take count words in (
+      first.now,
+      second.now,
+      map now (take (length rest - 1) (drop 1 rest)),
+      ap (λ others. first.now ∷ second.now ∷ others)
+          (ap (map now) (sym (take_all count words (omega arith)))
+          ∙ first-rest now rest default more),
+    )
+
 -- A slice whose length is not 0.
 pub some-left : {X : Type 0} (xs : List X) → false ≡ (length xs == 0) → 1 ≤ length xs
 some-left xs test = grind (arith, nat_tests)
@@ -241,14 +261,14 @@ pub of-operation : (form : Form) (families : Families) (operands : List (List �
     (files : List (Bor (List ℕ))) (result : Result Request Misuse)
     → operands ≡ command ∷ map (λ name. name.now) files → words_needed command ≡ Some 1
     → IfOk result (IsRequestWith form families operands)
-    → IfErr result (λ misuse. (misuse ≡ TooFewWords) × (files ≡ []))
+    → IfErr result (λ misuse. (misuse ≡ MissingFile) × (files ≡ []))
     → MatchResult result (IsRequestWith form families operands) (IsMisuseOfOperands operands)
 of-operation form families operands command files (Ok request) parts needs asks few = asks
 of-operation form families operands command files (Err misuse) parts needs asks few =
     let none : length (map (λ (name : Bor (List ℕ)). name.now) files) < 1 =
     subst (λ (each : List (Bor (List ℕ))). length (map (λ name. name.now) each) < 1) (sym few.1)
     (lit< tt) in
-    let whole : IsMisuseOfOperands operands TooFewWords = (
+    let whole : IsMisuseOfOperands operands MissingFile = (
       command,
       map (λ name. name.now) files,
       parts,
@@ -257,12 +277,23 @@ of-operation form families operands command files (Err misuse) parts needs asks 
     ) in
     subst (IsMisuseOfOperands operands) (sym few.0) whole
 
+-- What a command and other words ask for, or what is wrong with them.
+pub of-command : (form : Form) (families : Families) (operands others : List (List ℕ))
+    (result : Result Request Misuse) → operands ≡ others
+    → IfOk result (IsRequestWith form families others)
+    → IfErr result (IsMisuseOfOperands others)
+    → MatchResult result (IsRequestWith form families operands) (IsMisuseOfOperands operands)
+of-command form families operands others (Ok request) same asks wrong =
+    subst (λ words. IsRequestWith form families words request) (sym same) asks
+of-command form families operands others (Err misuse) same asks wrong =
+    subst (λ words. IsMisuseOfOperands words misuse) (sym same) wrong
+
 -- A word that is none of the commands.
 pub no-command : (word : List ℕ) → word ≢ codes "union" → word ≢ codes "common"
     → word ≢ codes "except" → word ≢ codes "odd" → word ≢ codes "at-least"
     → word ≢ codes "complement" → word ≢ codes "count" → word ≢ codes "has"
-    → words_needed word ≡ None
-no-command word union common except odd at_least complement count has =
+    → word ≢ codes "diff" → word ≢ codes "check" → words_needed word ≡ None
+no-command word union common except odd at_least complement count has diff check =
     rw (
       not-same word (codes "union") union,
       not-same word (codes "common") common,
@@ -272,6 +303,8 @@ no-command word union common except odd at_least complement count has =
       not-same word (codes "complement") complement,
       not-same word (codes "count") count,
       not-same word (codes "has") has,
+      not-same word (codes "diff") diff,
+      not-same word (codes "check") check,
     ) refl
 
 -- ---- arguments with one more word

@@ -24,12 +24,12 @@ module _ (bytes : List ℕ → Option (List ℕ)) where
   pub first-fault : (files before after : List (List ℕ)) (file : List ℕ) (fault : Fault)
       → files ≡ before ++ file ∷ after → All (IsGoodFile bytes) before
       → IsFaultOf bytes file fault → IsFirstFault bytes files fault
-  first-fault files before after name (BadLine file line) parts good is =
+  first-fault files before after name (BadLine file bad) parts good is =
       let first : IsFirstFile bytes files name =
       record { before = before; after = after; parts = parts; good = good } in
       record {
         first = subst (IsFirstFile bytes files) (sym is.0) first;
-        bad = subst (λ each. IfSome (bytes each) (λ all. IsFirstBadLine all line)) (sym is.0) is.1;
+        line = subst (λ each. IfSome (bytes each) (λ all. IsFirstBadLine all bad)) (sym is.0) is.1;
       }
   first-fault files before after name (NotRead file error) parts good is =
       let first : IsFirstFile bytes files name =
@@ -42,7 +42,7 @@ module _ (bytes : List ℕ → Option (List ℕ)) where
   -- A fault after all files were read as lists is the first one.
   pub after-reading : (files : List (List ℕ)) (fault : Fault) → All (IsGoodFile bytes) files
       → IsAfterReading fault → IsFirstFault bytes files fault
-  after-reading files (BadLine file line) good is = absurd is
+  after-reading files (BadLine file bad) good is = absurd is
   after-reading files (NotRead file error) good is = absurd is
   after-reading files (NotWritten error) good is = good
   after-reading files NoMemory good is = tt

@@ -13,7 +13,7 @@ use Rattle.ip_sets.specs.declared.blocks.block.Block.{Block}
 use Rattle.std.specs.Io.KnownBytes.{Appends}
 use Rattle.std.specs.Prelude.{Err, Ok, OnOk, Option, Result}
 use Rattle.ip_commands.proofs.lemmas.Appends.{Appends-then}
-use Rattle.ip_commands.specs.Text.{IsListText, IsSetText, kept_v4, kept_v6, range_line}
+use Rattle.ip_commands.specs.Text.{IsSignedList, IsSignedSet, kept_v4, kept_v6, range_line}
 use Rattle.ip_commands.specs.declared.request.Families.{Families}
 use Rattle.ip_commands.specs.declared.request.Families.TheVariants.{Both, V4, V6}
 use Rattle.ip_commands.specs.declared.request.Form.{Form}
@@ -55,9 +55,9 @@ module _ {T : Type 0} (text : ℕ → List ℕ) (rank : T → ℕ) where
 -- ---- sets and lists
 
 -- The empty set has no text.
-no-lines : {T : Type 0} (text : ℕ → List ℕ) (rank : T → ℕ) (width many : ℕ) (form : Form)
-    → IsSetText text rank width many form [] []
-no-lines text rank width many Blocks = record {
+no-lines : (sign : List ℕ) {T : Type 0} (text : ℕ → List ℕ) (rank : T → ℕ) (width many : ℕ)
+    (form : Form) → IsSignedSet sign text rank width many form [] []
+no-lines sign text rank width many Blocks = record {
   canonical = (tt, All-nil (λ (run : Interval). run.last < many));
   written = record {
     blocks = [];
@@ -70,16 +70,16 @@ no-lines text rank width many Blocks = record {
     whole = refl;
   };
 }
-no-lines text rank width many Ranges = record {
+no-lines sign text rank width many Ranges = record {
   canonical = (tt, All-nil (λ (run : Interval). run.last < many));
   written = refl;
 }
 
-module _ (form : Form) (v4 v6 : List Interval) (v4_lines v6_lines : List ℕ) where
+module _ (sign : List ℕ) (form : Form) (v4 v6 : List Interval) (v4_lines v6_lines : List ℕ) where
   -- Both families.
-  pub both-lines : IsSetText v4_text (λ (number : ℕ). number) 32 (2 ^ 32) form v4 v4_lines
-      → IsSetText v6_text (λ (number : ℕ). number) 128 (2 ^ 128) form v6 v6_lines
-      → IsListText form v4 v6 (v4_lines ++ v6_lines)
+  pub both-lines : IsSignedSet sign v4_text (λ (number : ℕ). number) 32 (2 ^ 32) form v4 v4_lines
+      → IsSignedSet sign v6_text (λ (number : ℕ). number) 128 (2 ^ 128) form v6 v6_lines
+      → IsSignedList sign form v4 v6 (v4_lines ++ v6_lines)
   both-lines first last = record {
     v4_lines = v4_lines;
     v6_lines = v6_lines;
@@ -89,23 +89,23 @@ module _ (form : Form) (v4 v6 : List Interval) (v4_lines v6_lines : List ℕ) wh
   }
 
   -- Only IPv4.
-  pub v4-lines : IsSetText v4_text (λ (number : ℕ). number) 32 (2 ^ 32) form v4 v4_lines
-      → IsListText form v4 [] v4_lines
+  pub v4-lines : IsSignedSet sign v4_text (λ (number : ℕ). number) 32 (2 ^ 32) form v4 v4_lines
+      → IsSignedList sign form v4 [] v4_lines
   v4-lines first = record {
     v4_lines = v4_lines;
     v6_lines = [];
     v4_written = first;
-    v6_written = no-lines v6_text (λ number. number) 128 (2 ^ 128) form;
+    v6_written = no-lines sign v6_text (λ number. number) 128 (2 ^ 128) form;
     whole = sym (append-nil v4_lines);
   }
 
   -- Only IPv6.
-  pub v6-lines : IsSetText v6_text (λ (number : ℕ). number) 128 (2 ^ 128) form v6 v6_lines
-      → IsListText form [] v6 v6_lines
+  pub v6-lines : IsSignedSet sign v6_text (λ (number : ℕ). number) 128 (2 ^ 128) form v6 v6_lines
+      → IsSignedList sign form [] v6 v6_lines
   v6-lines last = record {
     v4_lines = [];
     v6_lines = v6_lines;
-    v4_written = no-lines v4_text (λ number. number) 32 (2 ^ 32) form;
+    v4_written = no-lines sign v4_text (λ number. number) 32 (2 ^ 32) form;
     v6_written = last;
     whole = refl;
   }
@@ -113,34 +113,34 @@ module _ (form : Form) (v4 v6 : List Interval) (v4_lines v6_lines : List ℕ) wh
 -- ---- what was written
 
 -- Whether a text of these IPv4 and IPv6 addresses was written.
-abbrev pub WritesList : Form → List Interval → List Interval → Option (List ℕ) → Option (List ℕ)
+abbrev pub WritesList : List ℕ → Form → List Interval → List Interval → Option (List ℕ) → Option (List ℕ)
     → Type 0
-WritesList form v4 v6 old new = (text : List ℕ) × IsListText form v4 v6 text × Appends old new text
+WritesList sign form v4 v6 old new = (text : List ℕ) × IsSignedList sign form v4 v6 text × Appends old new text
 
 -- Whether a text of these IPv4 addresses was written.
-abbrev pub WritesV4 : Form → List Interval → Option (List ℕ) → Option (List ℕ) → Type 0
-WritesV4 form v4 old new = (text : List ℕ)
-    × IsSetText v4_text (λ (number : ℕ). number) 32 (2 ^ 32) form v4 text × Appends old new text
+abbrev pub WritesV4 : List ℕ → Form → List Interval → Option (List ℕ) → Option (List ℕ) → Type 0
+WritesV4 sign form v4 old new = (text : List ℕ)
+    × IsSignedSet sign v4_text (λ (number : ℕ). number) 32 (2 ^ 32) form v4 text × Appends old new text
 
 -- Whether a text of these IPv6 addresses was written.
-abbrev pub WritesV6 : Form → List Interval → Option (List ℕ) → Option (List ℕ) → Type 0
-WritesV6 form v6 old new = (text : List ℕ)
-    × IsSetText v6_text (λ (number : ℕ). number) 128 (2 ^ 128) form v6 text × Appends old new text
+abbrev pub WritesV6 : List ℕ → Form → List Interval → Option (List ℕ) → Option (List ℕ) → Type 0
+WritesV6 sign form v6 old new = (text : List ℕ)
+    × IsSignedSet sign v6_text (λ (number : ℕ). number) 128 (2 ^ 128) form v6 text × Appends old new text
 
-module _ (form : Form) (families : Families) (v4 v6 : List Interval) where
+module _ (sign : List ℕ) (form : Form) (families : Families) (v4 v6 : List Interval) where
   -- What is written of these families.
   abbrev Kept : Families → Option (List ℕ) → Option (List ℕ) → Type 0
-  Kept which old new = WritesList form (kept_v4 which v4) (kept_v6 which v6) old new
+  Kept which old new = WritesList sign form (kept_v4 which v4) (kept_v6 which v6) old new
 
   -- If the text of each family was written, so was that of both.
   pub both-written : {E : Type 0} (result : Result (Unit {0}) E) (old mid new : Option (List ℕ))
-      → families ≡ Both → WritesV4 form v4 old mid → OnOk result (WritesV6 form v6 mid new)
+      → families ≡ Both → WritesV4 sign form v4 old mid → OnOk result (WritesV6 sign form v6 mid new)
       → OnOk result (Kept families old new)
   both-written (Ok done) old mid new is first last =
       let text = first.0 ++ last.0 in
       let whole : Kept Both old new = (
         text,
-        both-lines form v4 v6 first.0 last.0 first.1 last.1,
+        both-lines sign form v4 v6 first.0 last.0 first.1 last.1,
         Appends-then old mid new first.0 last.0 first.2 last.2,
       ) in
       subst (λ which. Kept which old new) (sym is) whole
@@ -148,19 +148,19 @@ module _ (form : Form) (families : Families) (v4 v6 : List Interval) where
 
   -- If only IPv4 is asked for, the text of the IPv4 addresses is enough.
   pub v4-written : {E : Type 0} (result : Result (Unit {0}) E) (old new : Option (List ℕ))
-      → families ≡ V4 → OnOk result (WritesV4 form v4 old new) → OnOk result (Kept families old new)
+      → families ≡ V4 → OnOk result (WritesV4 sign form v4 old new) → OnOk result (Kept families old new)
   v4-written (Ok done) old new is first =
       let whole : Kept V4 old new =
-      (first.0, v4-lines form v4 v6 first.0 [] first.1, first.2) in
+      (first.0, v4-lines sign form v4 v6 first.0 [] first.1, first.2) in
       subst (λ which. Kept which old new) (sym is) whole
   v4-written (Err error) old new is first = tt
 
   -- If only IPv6 is asked for, the text of the IPv6 addresses is enough.
   pub v6-written : {E : Type 0} (result : Result (Unit {0}) E) (old new : Option (List ℕ))
-      → families ≡ V6 → OnOk result (WritesV6 form v6 old new) → OnOk result (Kept families old new)
+      → families ≡ V6 → OnOk result (WritesV6 sign form v6 old new) → OnOk result (Kept families old new)
   v6-written (Ok done) old new is last =
       let whole : Kept V6 old new =
-      (last.0, v6-lines form v4 v6 [] last.0 last.1, last.2) in
+      (last.0, v6-lines sign form v4 v6 [] last.0 last.1, last.2) in
       subst (λ which. Kept which old new) (sym is) whole
   v6-written (Err error) old new is last = tt
 

@@ -1,43 +1,65 @@
 -- How the program ends.
-use Rattle.std.proofs.Common.{All, ◌≡◌, ℕ, List, Option, subst, sym}
+use Rattle.std.proofs.Common.{◌≡◌, ℕ, List, [], ◌∷◌, Option, subst, sym}
+use Rattle.std.specs.Io.KnownBytes.{Keeps}
+use Rattle.std.specs.declared.io.Error.{Error}
 use Rattle.std.specs.Prelude.{Err, IsErrAnd, Ok, Result}
-use Rattle.std.proofs.lemmas.List.Elements.{All-nil}
+use Rattle.std.proofs.lemmas.List.Elements.{All-cons, All-nil}
 use Rattle.ip_commands.specs.Answer.{Answers}
 use Rattle.ip_commands.specs.CommandLine.{IsRequest, IsWordFault}
-use Rattle.ip_commands.specs.Files.{IsFirstFault, IsGoodFile, KeepsUnlessWriting}
+use Rattle.ip_commands.specs.Files.{IsGoodFile, KeepsUnlessWriting}
 use Rattle.ip_commands.specs.Program.{Ends, EndsInFault}
-use Rattle.ip_commands.specs.Request.{files_of}
-use Rattle.ip_commands.proofs.lemmas.Appends.{Keeps-itself}
+use Rattle.ip_commands.specs.Request.{IsFirstFaultOf, files_of}
+use Rattle.ip_commands.proofs.lemmas.Appends.{Appends-kept, Keeps-itself}
 use Rattle.ip_commands.proofs.lemmas.Files.{all-good}
 use Rattle.ip_commands.specs.declared.commands.Outcome.{Outcome}
+use Rattle.ip_commands.specs.declared.commands.TheConstants.{HELP, VERSION}
 use Rattle.ip_commands.specs.declared.fault.Fault.{Fault}
 use Rattle.ip_commands.specs.declared.fault.Fault.TheVariants.{BadLine, CommandLine, NoMemory, NotRead, NotWritten}
+use Rattle.ip_commands.specs.declared.fault.Misuse.{Misuse}
 use Rattle.ip_commands.specs.declared.request.Request.{Request}
-use Rattle.ip_commands.specs.declared.request.Request.TheVariants.{Combine, Count, Has, Help, Version}
+use Rattle.ip_commands.specs.declared.request.Request.TheVariants.{Check, Combine, Count, Diff as Compare, Has, Help, Version}
+
+-- No fault of a request is about the command line.
+no-misuse : (bytes : List ℕ → Option (List ℕ)) (request : Request) (misuse : Misuse)
+    → IsFirstFaultOf bytes request (CommandLine misuse) → ⊥
+no-misuse bytes Help misuse first = first
+no-misuse bytes Version misuse first = first
+no-misuse bytes (Combine it) misuse first = first
+no-misuse bytes (Count families files) misuse first = first
+no-misuse bytes (Has address files) misuse first = first
+no-misuse bytes (Compare diff) misuse first = first
+no-misuse bytes (Check files) misuse first = first
 
 module _ (bytes : List ℕ → Option (List ℕ)) (words : List (List ℕ)) (old new : Option (List ℕ))
   where
     -- The first fault in what the words ask for.
     pub request-fault : (request : Request) (fault : Fault) → IsRequest words request
-        → IsFirstFault bytes (files_of request) fault → KeepsUnlessWriting fault old new
+        → IsFirstFaultOf bytes request fault → KeepsUnlessWriting fault old new
         → EndsInFault bytes words old new fault
-    request-fault request (BadLine file line) asked first keeps = (request, asked, first, keeps)
+    request-fault request (BadLine file bad) asked first keeps = (request, asked, first, keeps)
     request-fault request (NotRead file error) asked first keeps = (request, asked, first, keeps)
-    request-fault request (NotWritten error) asked first keeps = (request, asked, first)
+    request-fault request (NotWritten error) asked first keeps = (request, asked, first, keeps)
     request-fault request NoMemory asked first keeps = keeps
-    request-fault request (CommandLine misuse) asked first keeps = absurd first
+    request-fault request (CommandLine misuse) asked first keeps =
+        absurd (no-misuse bytes request misuse first)
 
-    -- A request that was answered named lists only.
-    pub answered-good : (request : Request) (outcome : Outcome)
-        → Answers bytes request outcome old new → All (IsGoodFile bytes) (files_of request)
-    answered-good Help outcome answer = All-nil (IsGoodFile bytes)
-    answered-good Version outcome answer = All-nil (IsGoodFile bytes)
-    answered-good (Combine it) outcome answer =
+    -- A write that fails after a request was answered is its first fault.
+    pub answered-first : (request : Request) (outcome : Outcome) (error : Error)
+        → Answers bytes request outcome old new
+        → IsFirstFaultOf bytes request (NotWritten error)
+    answered-first Help outcome error answer = All-nil (IsGoodFile bytes)
+    answered-first Version outcome error answer = All-nil (IsGoodFile bytes)
+    answered-first (Combine it) outcome error answer =
         all-good bytes (files_of (Combine it)) answer.1.1.lists answer.1.1.are
-    answered-good (Count families files) outcome answer =
+    answered-first (Count families files) outcome error answer =
         all-good bytes (files_of (Count families files)) answer.1.1.lists answer.1.1.are
-    answered-good (Has address files) outcome answer =
+    answered-first (Has address files) outcome error answer =
         all-good bytes (files_of (Has address files)) answer.1.lists answer.1.are
+    answered-first (Compare diff) outcome error answer =
+        All-cons (IsGoodFile bytes) diff.old.now (diff.new.now ∷ [])
+        (answer.1.old, answer.1.old_is) (All-cons (IsGoodFile bytes) diff.new.now []
+        (answer.1.new, answer.1.new_is) (All-nil (IsGoodFile bytes)))
+    answered-first (Check files) outcome error answer = tt
 
     -- The fault that `?` returns.
     pub ends-in : (result : Result Outcome Fault) (fault : Fault)
@@ -46,11 +68,34 @@ module _ (bytes : List ℕ → Option (List ℕ)) (words : List (List ℕ)) (old
     ends-in (Ok outcome) fault same is = absurd same
     ends-in (Err other) fault same is = subst (EndsInFault bytes words old new) (sym same) is
 
+-- If nothing changes after a request was answered, it was answered.
+pub answers-kept : (bytes : List ℕ → Option (List ℕ)) (request : Request) (outcome : Outcome)
+    (old mid new : Option (List ℕ)) → Answers bytes request outcome old mid → Keeps mid new
+    → Answers bytes request outcome old new
+answers-kept bytes Help outcome old mid new answer keeps =
+    (answer.0, Appends-kept old mid new HELP.now answer.1 keeps)
+answers-kept bytes Version outcome old mid new answer keeps =
+    (answer.0, Appends-kept old mid new VERSION.now answer.1 keeps)
+answers-kept bytes (Combine it) outcome old mid new answer keeps = (
+  answer.0,
+  (answer.1.0, answer.1.1, Appends-kept old mid new answer.1.0 answer.1.2 keeps),
+)
+answers-kept bytes (Count families files) outcome old mid new answer keeps = (
+  answer.0,
+  (answer.1.0, answer.1.1, Appends-kept old mid new answer.1.0 answer.1.2 keeps),
+)
+answers-kept bytes (Has address files) outcome old mid new answer keeps =
+    (answer.0, answer.1, Appends-kept old mid new answer.0 answer.2 keeps)
+answers-kept bytes (Compare diff) outcome old mid new answer keeps =
+    (answer.0, answer.1, Appends-kept old mid new answer.0 answer.2 keeps)
+answers-kept bytes (Check files) outcome old mid new answer keeps =
+    (answer.0, answer.1, Appends-kept old mid new answer.0 answer.2 keeps)
+
 -- A fault of the words themselves, before anything was written.
 pub word-fault : (bytes : List ℕ → Option (List ℕ)) (words : List (List ℕ))
     (known : Option (List ℕ)) (fault : Fault) → IsWordFault words fault
     → EndsInFault bytes words known known fault
-word-fault bytes words known (BadLine file line) is = absurd is
+word-fault bytes words known (BadLine file bad) is = absurd is
 word-fault bytes words known (NotRead file error) is = absurd is
 word-fault bytes words known (NotWritten error) is = absurd is
 word-fault bytes words known NoMemory is = Keeps-itself known

@@ -75,17 +75,18 @@ agrees n selected runs has rank below =
 
 -- ---- what is written
 
-module _ (form : Form) (families : Families) (these those : Selection) (first_may last_may : Outcomes)
+module _ (sign : List ℕ) (form : Form) (families : Families) (these those : Selection)
+    (first_may last_may : Outcomes)
     (first_only : first_may ⊆ AreRuns (2 ^ 32) these)
     (last_only : last_may ⊆ AreRuns (2 ^ 128) those) where
   -- Whether what was selected was written, in some of the families.
   abbrev Kept : Families → Option (List ℕ) → Option (List ℕ) → Type 0
-  Kept which old new = WritesSelected form which these those old new
+  Kept which old new = WritesSelected sign form which these those old new
 
   -- Both families were written.
   pub both-selected : {E : Type 0} (result : Result (Unit {0}) E) (old mid new : Option (List ℕ))
-      → families ≡ Both → (runs : List Interval) × first_may runs × WritesV4 form runs old mid
-      → OnOk result ((runs : List Interval) × last_may runs × WritesV6 form runs mid new)
+      → families ≡ Both → (runs : List Interval) × first_may runs × WritesV4 sign form runs old mid
+      → OnOk result ((runs : List Interval) × last_may runs × WritesV6 sign form runs mid new)
       → OnOk result (Kept families old new)
   both-selected (Ok done) old mid new is first last =
       let v4 = first.2 in
@@ -96,7 +97,7 @@ module _ (form : Form) (families : Families) (these those : Selection) (first_ma
         v4_made = runs-members (2 ^ 32) these first.0 (first_only first.0 first.1);
         v6_made = runs-members (2 ^ 128) those last.0 (last_only last.0 last.1);
         text = v4.0 ++ v6.0;
-        whole = both-lines form first.0 last.0 v4.0 v6.0 v4.1 v6.1;
+        whole = both-lines sign form first.0 last.0 v4.0 v6.0 v4.1 v6.1;
         written = Appends-then old mid new v4.0 v6.0 v4.2 v6.2;
       } in
       subst (λ which. Kept which old new) (sym is) whole
@@ -105,7 +106,7 @@ module _ (form : Form) (families : Families) (these those : Selection) (first_ma
   -- Only IPv4 was written.
   pub v4-selected : {E : Type 0} (result : Result (Unit {0}) E) (old new : Option (List ℕ))
       → families ≡ V4
-      → OnOk result ((runs : List Interval) × first_may runs × WritesV4 form runs old new)
+      → OnOk result ((runs : List Interval) × first_may runs × WritesV4 sign form runs old new)
       → OnOk result (Kept families old new)
   v4-selected (Ok done) old new is first =
       let v4 = first.2 in
@@ -116,7 +117,7 @@ module _ (form : Form) (families : Families) (these those : Selection) (first_ma
         v4_made = runs-members (2 ^ 32) these first.0 (first_only first.0 first.1);
         v6_made = agrees (2 ^ 128) those others.0 others.1;
         text = v4.0;
-        whole = v4-lines form first.0 others.0 v4.0 [] v4.1;
+        whole = v4-lines sign form first.0 others.0 v4.0 [] v4.1;
         written = v4.2;
       } in
       subst (λ which. Kept which old new) (sym is) whole
@@ -125,7 +126,7 @@ module _ (form : Form) (families : Families) (these those : Selection) (first_ma
   -- Only IPv6 was written.
   pub v6-selected : {E : Type 0} (result : Result (Unit {0}) E) (old new : Option (List ℕ))
       → families ≡ V6
-      → OnOk result ((runs : List Interval) × last_may runs × WritesV6 form runs old new)
+      → OnOk result ((runs : List Interval) × last_may runs × WritesV6 sign form runs old new)
       → OnOk result (Kept families old new)
   v6-selected (Ok done) old new is last =
       let v6 = last.2 in
@@ -136,7 +137,7 @@ module _ (form : Form) (families : Families) (these those : Selection) (first_ma
         v4_made = agrees (2 ^ 32) these others.0 others.1;
         v6_made = runs-members (2 ^ 128) those last.0 (last_only last.0 last.1);
         text = v6.0;
-        whole = v6-lines form others.0 last.0 [] v6.0 v6.1;
+        whole = v6-lines sign form others.0 last.0 [] v6.0 v6.1;
         written = v6.2;
       } in
       subst (λ which. Kept which old new) (sym is) whole
@@ -146,9 +147,9 @@ module _ (form : Form) (families : Families) (these those : Selection) (first_ma
 pub as-asked : {E : Type 0} (operation which : Operation) (v4 v6 : List Selection) (form : Form)
     (families : Families) (result : Result (Unit {0}) E) (old new : Option (List ℕ))
     → operation ≡ which
-    → OnOk result (WritesSelected form families (selected_by which v4) (selected_by which v6) old new)
-    → OnOk result (WritesSelected form families (selected_by operation v4)
+    → OnOk result (WritesSelected [] form families (selected_by which v4) (selected_by which v6) old new)
+    → OnOk result (WritesSelected [] form families (selected_by operation v4)
     (selected_by operation v6) old new)
 as-asked operation which v4 v6 form families result old new is written =
-    subst (λ each. OnOk result (WritesSelected form families (selected_by each v4)
+    subst (λ each. OnOk result (WritesSelected [] form families (selected_by each v4)
     (selected_by each v6) old new)) (sym is) written

@@ -1,6 +1,6 @@
 //! Operations on the lists of files.
 
-ghost use Rattle.std.specs.Prelude.{◌≡◌, ℕ, ◌^◌, IfErr, IfOk, List, OnOk, map};
+ghost use Rattle.std.specs.Prelude.{◌≡◌, ℕ, ◌^◌, [], IfErr, IfOk, List, OnOk, map};
 ghost use Rattle.std.specs.Io.KnownBytes.{Appends};
 ghost use Rattle.range_set_blaze.specs.Runs.{AreRuns, members};
 ghost use Rattle.range_set_blaze.specs.Selection.{Selection};
@@ -14,7 +14,7 @@ use crate::commands::lists::read_lists;
 use crate::fault::Fault;
 use crate::inputs::Inputs;
 use crate::request::Combination;
-use crate::writing::write_streams;
+use crate::writing::{Style, write_streams};
 use ip_sets::selection::{at_least, common, complement, except, odd, union, v4_ranges, v6_ranges};
 use ip_sets::{AddressList, Operation};
 use range_set_blaze::{Draw, DrawDisjoint};
@@ -49,7 +49,7 @@ fn write_operation<'a, A: Allocator + Copy, W: Write>(
     lists: &[AddressList<A>],
     combination: Combination<'a>,
 ) -> Result<(), Fault<'a>>
-    ensures answer { OnOk result (WritesSelected combination.entry.form combination.entry.families
+    ensures answer { OnOk result (WritesSelected [] combination.entry.form combination.entry.families
         (selected_by combination.entry.operation (map members (map (λ list. list.v4) lists.now)))
         (selected_by combination.entry.operation (map members (map (λ list. list.v6) lists.now)))
         (W.contents output.old) (W.contents output.new)) }
@@ -95,12 +95,17 @@ fn write_made<'a, W: Write, F: DrawDisjoint<u32>, S: DrawDisjoint<u128>>(
     ensures answer { (these those : Selection)
         → IfOk v4 (λ stream. F.may_give stream ⊆ AreRuns (2 ^ 32) these)
         → IfOk v6 (λ stream. S.may_give stream ⊆ AreRuns (2 ^ 128) those)
-        → OnOk result (WritesSelected combination.entry.form combination.entry.families
+        → OnOk result (WritesSelected [] combination.entry.form combination.entry.families
         these those (W.contents output.old) (W.contents output.new)) }
     ensures keeps { IfErr result (λ fault.
         KeepsUnlessWriting fault (W.contents output.old) (W.contents output.new)) }
     ensures fault { IfErr result IsAfterReading }
 {
-    write_streams(output, v4?, v6?, combination)?;
+    let style = Style {
+        sign: b"",
+        form: combination.form,
+        families: combination.families,
+    };
+    write_streams(output, v4?, v6?, style)?;
     Ok(())
 }

@@ -31,8 +31,8 @@ pub(crate) fn read_lists<'a, A: Allocator + Copy, I: Inputs>(
     Ok(lists)
 }
 
-// Reads the list of a file.
-fn read_file<'a, A: Allocator + Copy, I: Inputs>(
+/// Reads the list of a file.
+pub(crate) fn read_file<'a, A: Allocator + Copy, I: Inputs>(
     alloc: A,
     inputs: &I,
     file: &'a str,
@@ -47,14 +47,14 @@ fn read_file<'a, A: Allocator + Copy, I: Inputs>(
     };
     match read_list(alloc, &mut input) {
         Ok(list) => Ok(list),
-        Err(ListFault::BadLine(line)) => Err(Fault::BadLine { file, line }),
+        Err(ListFault::BadLine(bad)) => Err(Fault::BadLine { file, bad }),
         Err(ListFault::NoMemory) => Err(Fault::NoMemory),
         Err(ListFault::Io(error)) => Err(not_read(file, error)),
     }
 }
 
-// Returns the fault of a file that could not be read.
-fn not_read<'a>(file: &'a str, error: io::Error) -> Fault<'a>
+/// Returns the fault of a file that could not be read.
+pub(crate) fn not_read<'a>(file: &'a str, error: io::Error) -> Fault<'a>
     ensures not_read { IsNotRead file.now result }
     ensures memory { error_kind error ≡ ErrorKind.OutOfMemory → result ≡ Fault.NoMemory }
     ensures others { error_kind error ≢ ErrorKind.OutOfMemory

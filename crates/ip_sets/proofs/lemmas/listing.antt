@@ -7,6 +7,7 @@ pub mod LineEnds
 pub mod OneSelection
 pub mod Pairs
 pub mod Reading
+pub mod Reports
 pub mod Searched
 pub mod Selected
 pub mod WrittenLines

@@ -21,8 +21,8 @@ pub(crate) fn prefix_length(text: &[u8], most: u32) -> Option<u32>
     Some(length)
 }
 
-// Returns the number that decimal digits write, if there is a digit and the number fits 32 bits.
-fn digits(text: &[u8]) -> Option<u32>
+/// Returns the number that decimal digits write, if there is a digit and the number fits 32 bits.
+pub(crate) fn digits(text: &[u8]) -> Option<u32>
     ensures { SomeIff result (IsNumeral 10 text.now × (digits_value 10 text.now < 2 ^ 32))
         (digits_value 10 text.now) }
 {

@@ -4,15 +4,15 @@ ghost use Rattle.std.specs.Prelude.{◌≡◌};
 ghost use Rattle.ip_sets.specs.declared.list.fault.ListFault.TheVariants.{NoMemory};
 ghost use Rattle.ip_sets.specs.ListFault.{Reports};
 
+use crate::list::bad_line::BadLine;
 use std::alloc::AllocError;
 use std::io::{self, ErrorKind};
 
 /// The first fault of a list.
 #[derive(Debug, Drop)]
 pub enum ListFault {
-    /// A line is neither blank nor an address, a block or a range. The number is that of the first
-    /// such line, counted from 1.
-    BadLine(u64),
+    /// A line is neither blank nor an address, a block or a range. This is the first such line.
+    BadLine(BadLine),
     /// An allocation failed.
     NoMemory,
     /// A read failed, or the list has 2^64 - 1 lines or more.

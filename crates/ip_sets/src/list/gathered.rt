@@ -2,13 +2,14 @@
 
 ghost use Rattle.std.specs.Prelude.{◌≡◌, ◌≢◌, ℕ, ◌+◌, ◌≤◌, ◌++◌, [], ◌∷◌, Err, IfOk, List, OnOk, Some, drop, length};
 ghost use Rattle.range_set_blaze.specs.Set.{IsSetOf};
-ghost use Rattle.ip_sets.specs.Gathering.{AreGathered, AreGatheredBefore, AreGatheredTo, gathered_v4, gathered_v6, range_count};
+ghost use Rattle.ip_sets.specs.Gathering.{AreGathered, AreGatheredBefore, AreGatheredPast, AreGatheredTo, StopsPast, gathered_v4, gathered_v6, range_count};
 ghost use Rattle.ip_sets.specs.Line.{IsLine, MeansV4, MeansV6, content};
 ghost use Rattle.ip_sets.specs.LineParts.{Reads};
-ghost use Rattle.ip_sets.specs.List.{AddsAddressesOf, IsBadLine, IsPastBadLine, LeavesPastBadLine};
+ghost use Rattle.ip_sets.specs.List.{AddsAddressesOf, IsReportOf};
 
-use crate::line::{Line, first_line};
+use crate::line::{Line, first_line, parse_line};
 use crate::list::AddressList;
+use crate::list::bad_line::BadLine;
 use crate::list::fault::ListFault;
 use crate::set::AddressSet;
 use std::alloc::{AllocError, Allocator};
@@ -26,7 +27,7 @@ pub(crate) struct Gathered<A: Allocator> {
 impl<A: Allocator + Copy> Gathered<A> {
     /// Returns the state before the first line. Does not allocate.
     pub(crate) fn new(alloc: A) -> Self
-        ensures { (bytes : List ℕ) → AreGatheredBefore bytes bytes result }
+        ensures { (bytes : List ℕ) → AreGatheredBefore [] bytes bytes result }
     {
         Gathered {
             v4: Vec::new(alloc),
@@ -51,15 +52,47 @@ impl<A: Allocator> Gathered<A> {
         AddressList { v4, v6 }
     }
 
-    /// Consumes every complete line in the buffer, up to and including the first bad one. The rest
-    /// stays in the buffer.
-    pub(crate) fn add_buffered<R: BufRead>(&mut self, input: &mut R) -> Result<(), ListFault>
-        ensures gathered { (bytes : List ℕ) → AreGatheredTo bytes (R.remaining input.old) self.old
-            → OnOk result (AreGatheredTo bytes (R.remaining input.new) self.new) }
-        ensures bad_line { (bytes : List ℕ) (number : ℕ)
-            → AreGatheredTo bytes (R.remaining input.old) self.old
-            → result ≡ Err (ListFault.BadLine number)
-            → LeavesPastBadLine bytes (R.remaining input.new) number }
+    /// Reads to the end of the input, or past the next bad line. The buffer is for a line that is
+    /// cut.
+    ///
+    /// After `BadLine`, the next call reads on.
+    pub(crate) fn read_on<R: BufRead>(
+        &mut self,
+        input: &mut R,
+        line: &mut Vec<u8, A>,
+    ) -> Result<(), ListFault>
+        ensures gathered { (bytes : List ℕ) (reports : List BadLine)
+            → AreGatheredTo reports bytes (R.remaining input.old) self.old
+            → OnOk result (AreGatheredTo reports bytes (Some []) self.new
+            × (R.remaining input.new ≡ Some [])) }
+        ensures bad_line { (bytes : List ℕ) (reports : List BadLine) (bad : BadLine)
+            → AreGatheredTo reports bytes (R.remaining input.old) self.old
+            → result ≡ Err (ListFault.BadLine bad)
+            → StopsPast reports bad bytes (R.remaining input.new) self.new }
+    {
+        for _ in 0..u64::MAX {
+            self.add_buffered(input)?;
+            // What is left of the buffer is the start of a line, which ends in another part of the
+            // input.
+            line.clear();
+            if input.read_until(b'\n', line)? == 0 {
+                return Ok(());
+            }
+            self.add_line(parse_line(line), line)?;
+        }
+        Err(too_many_lines())
+    }
+
+    // Consumes every complete line in the buffer, up to and including the first bad one. The rest
+    // stays in the buffer.
+    fn add_buffered<R: BufRead>(&mut self, input: &mut R) -> Result<(), ListFault>
+        ensures gathered { (bytes : List ℕ) (reports : List BadLine)
+            → AreGatheredTo reports bytes (R.remaining input.old) self.old
+            → OnOk result (AreGatheredTo reports bytes (R.remaining input.new) self.new) }
+        ensures bad_line { (bytes : List ℕ) (reports : List BadLine) (bad : BadLine)
+            → AreGatheredTo reports bytes (R.remaining input.old) self.old
+            → result ≡ Err (ListFault.BadLine bad)
+            → StopsPast reports bad bytes (R.remaining input.new) self.new }
     {
         match input.fill_buf() {
             Ok(bytes) => {
@@ -77,23 +110,25 @@ impl<A: Allocator> Gathered<A> {
         }
     }
 
-    /// Adds the addresses that a line means. Returns `BadLine` with the line's number if the line
-    /// is bad.
+    // Adds the addresses that a line means. Returns `BadLine` if the line is bad.
     #[inline(always)]
-    pub(crate) fn add_line(&mut self, meaning: Option<Line>) -> Result<(), ListFault>
-        ensures gathered { (line same : List ℕ) (before : List (List ℕ))
-            → Reads meaning (IsLine line) → content same ≡ content line
-            → AreGathered before self.old
-            → OnOk result (AreGathered (before ++ same ∷ []) self.new) }
-        ensures bad_line { (line : List ℕ) (number : ℕ) → Reads meaning (IsLine line)
-            → result ≡ Err (ListFault.BadLine number)
-            → (number ≡ self.old.number) × IsBadLine line }
+    fn add_line(&mut self, meaning: Option<Line>, line: &[u8]) -> Result<(), ListFault>
+        ensures gathered { (same : List ℕ) (before : List (List ℕ)) (reports : List BadLine)
+            → Reads meaning (IsLine line.now) → content same ≡ content line.now
+            → AreGathered reports before self.old
+            → OnOk result (AreGathered reports (before ++ same ∷ []) self.new) }
+        ensures bad_line { (same : List ℕ) (before : List (List ℕ)) (reports : List BadLine)
+            (bad : BadLine) → Reads meaning (IsLine line.now) → content same ≡ content line.now
+            → AreGathered reports before self.old → result ≡ Err (ListFault.BadLine bad)
+            → IsReportOf bad (length before + 1) same
+            × AreGathered (reports ++ bad ∷ []) (before ++ same ∷ []) self.new }
     {
+        let number = self.number;
+        self.number = next_number(number)?;
         let Some(meaning) = meaning else {
-            return Err(ListFault::BadLine(self.number));
+            return Err(ListFault::BadLine(BadLine::new(number, line)));
         };
         self.add(meaning)?;
-        self.number = next_number(self.number)?;
         Ok(())
     }
 
@@ -101,17 +136,20 @@ impl<A: Allocator> Gathered<A> {
     // number of bytes that it consumed.
     fn add_lines(&mut self, bytes: &[u8]) -> (usize, Result<(), ListFault>)
         ensures within { result.0 ≤ length bytes.now }
-        ensures gathered { (all more : List ℕ) → AreGatheredBefore all (bytes.now ++ more) self.old
-            → OnOk result.1 (AreGatheredBefore all (drop result.0 bytes.now ++ more) self.new) }
-        ensures bad_line { (all more : List ℕ) (number : ℕ)
-            → AreGatheredBefore all (bytes.now ++ more) self.old
-            → result.1 ≡ Err (ListFault.BadLine number)
-            → IsPastBadLine all (drop result.0 bytes.now ++ more) number }
+        ensures gathered { (all more : List ℕ) (reports : List BadLine)
+            → AreGatheredBefore reports all (bytes.now ++ more) self.old
+            → OnOk result.1
+            (AreGatheredBefore reports all (drop result.0 bytes.now ++ more) self.new) }
+        ensures bad_line { (all more : List ℕ) (reports : List BadLine) (bad : BadLine)
+            → AreGatheredBefore reports all (bytes.now ++ more) self.old
+            → result.1 ≡ Err (ListFault.BadLine bad)
+            → AreGatheredPast reports bad all (drop result.0 bytes.now ++ more) self.new }
     {
         let mut rest = bytes;
         while let Some(first) = first_line(rest) {
+            let line = &rest[..rest.len() - first.rest.len() - 1];
             rest = first.rest;
-            if let Err(fault) = self.add_line(first.meaning) {
+            if let Err(fault) = self.add_line(first.meaning, line) {
                 return (bytes.len() - rest.len(), Err(fault));
             }
         }
@@ -141,7 +179,7 @@ impl<A: Allocator> Gathered<A> {
 #[inline(always)]
 fn next_number(number: u64) -> Result<u64, ListFault>
     ensures next { IfOk result (λ next. next ≡ number + 1) }
-    ensures fault { (bad : ℕ) → result ≢ Err (ListFault.BadLine bad) }
+    ensures fault { (bad : BadLine) → result ≢ Err (ListFault.BadLine bad) }
 {
     match number.checked_add(1) {
         Some(next) => Ok(next),
@@ -151,7 +189,7 @@ fn next_number(number: u64) -> Result<u64, ListFault>
 
 /// Returns the fault of a list with too many lines.
 pub(crate) fn too_many_lines() -> ListFault
-    ensures { (number : ℕ) → result ≢ ListFault.BadLine number }
+    ensures { (bad : BadLine) → result ≢ ListFault.BadLine bad }
 {
     ListFault::Io(io::Error::from(ErrorKind::FileTooLarge))
 }

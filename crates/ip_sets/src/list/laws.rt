@@ -2,6 +2,7 @@
 
 ghost use Rattle.std.specs.Prelude.{◌≡◌, ◌↔◌, ℕ, List};
 ghost use Rattle.range_set_blaze.specs.Selection.{Selection};
+ghost use Rattle.ip_sets.specs.declared.list.bad_line.BadLine.{BadLine};
 ghost use Rattle.ip_sets.specs.List.{IsFirstBadLine, IsListOf, contents};
 
 /// A list selects at most one set of addresses of each family, or it has at most one first bad
@@ -11,10 +12,10 @@ pub fn list_selects_one()
         → IsListOf bytes v4 v6 → IsListOf bytes other4 other6 → v4 number ≡ other4 number }
     ensures v6 { (bytes : List ℕ) (v4 v6 other4 other6 : Selection) (number : ℕ)
         → IsListOf bytes v4 v6 → IsListOf bytes other4 other6 → v6 number ≡ other6 number }
-    ensures bad_line { (bytes : List ℕ) (number other : ℕ)
-        → IsFirstBadLine bytes number → IsFirstBadLine bytes other → number ≡ other }
-    ensures not_both { (bytes : List ℕ) (v4 v6 : Selection) (number : ℕ)
-        → IsListOf bytes v4 v6 → ¬ IsFirstBadLine bytes number }
+    ensures bad_line { (bytes : List ℕ) (bad other : BadLine) → IsFirstBadLine bytes bad
+        → IsFirstBadLine bytes other → bad.number ≡ other.number }
+    ensures not_both { (bytes : List ℕ) (v4 v6 : Selection) (bad : BadLine)
+        → IsListOf bytes v4 v6 → ¬ IsFirstBadLine bytes bad }
 {}
 
 /// Lists with the same contents select the same addresses: comments, blank lines, and the white

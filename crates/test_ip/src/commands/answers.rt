@@ -27,7 +27,7 @@ pub(crate) static FILES: [(&str, &[u8]); 8] = [
 type Row = (&'static [&'static str], u8, &'static str);
 
 /// Commands without a fault.
-static ROWS: [Row; 46] = [
+static ROWS: [Row; 55] = [
     (
         &["union", "a", "b"],
         0,
@@ -152,6 +152,34 @@ static ROWS: [Row; 46] = [
     (&["has", "10.0.0.6", "a", "empty", "a"], 0, "a\na\n"),
     (&["has", "::ffff:10.0.0.6", "a", "b"], 1, ""),
     (&["has", "10.0.0.8", "a", "b"], 1, ""),
+    (
+        &["diff", "a", "b"],
+        1,
+        "-10.0.0.0/30\n-10.0.0.4/31\n-2001:db8::/127\n+10.0.0.7\n+2001:db8::2\n",
+    ),
+    (
+        &["diff", "-6", "--ranges", "a", "b"],
+        1,
+        "-2001:db8::-2001:db8::1\n+2001:db8::2-2001:db8::2\n",
+    ),
+    (
+        &["diff", "-4", "ends", "empty"],
+        1,
+        "-0.0.0.0\n-255.255.255.255\n",
+    ),
+    (&["diff", "empty", "all"], 1, "+0.0.0.0/0\n+::/0\n"),
+    (&["diff", "a", "a"], 0, ""),
+    (&["diff", "-6", "empty", "-"], 0, ""),
+    (&["check", "a", "b", "empty"], 0, ""),
+    (
+        &["check", "bad", "a", "bad"],
+        2,
+        "bad:2: not an address, block or range: 10.0.0\n\
+         bad:3: a length above 32: 10.0.0.0/33\n\
+         bad:2: not an address, block or range: 10.0.0\n\
+         bad:3: a length above 32: 10.0.0.0/33\n",
+    ),
+    (&["-h"], 0, HELP),
     (&["--help"], 0, HELP),
     (&["--version", "unite", "--help"], 0, HELP),
     (&["union", "--version"], 0, VERSION),

@@ -4,27 +4,28 @@ use crate::commands::answers::FILES;
 use crate::commands::ends::{Filling, Held};
 use ip_commands::start;
 use std::alloc::Global;
+use std::io::{self, ErrorKind, Write};
 use std::process::ExitCode;
 
 /// A command line, its exit status, and the line that it reports.
 type Row = (&'static [&'static str], u8, &'static str);
 
 /// Commands with a fault.
-static ROWS: [Row; 24] = [
+static ROWS: [Row; 30] = [
     (
         &["union", "a", "bad", "none"],
         2,
-        "bad:2: not an address, block or range\n",
+        "bad:2: not an address, block or range: 10.0.0\n",
     ),
     (
         &["has", "10.0.0.1", "a", "bad"],
         2,
-        "bad:2: not an address, block or range\n",
+        "bad:2: not an address, block or range: 10.0.0\n",
     ),
     (
         &["count", "bad"],
         2,
-        "bad:2: not an address, block or range\n",
+        "bad:2: not an address, block or range: 10.0.0\n",
     ),
     (
         &["union", "a", "none", "bad"],
@@ -40,20 +41,16 @@ static ROWS: [Row; 24] = [
         64,
         "ip_lists: unknown option: --range\n",
     ),
-    (
-        &["union"],
-        64,
-        "ip_lists: too few words after the command\n",
-    ),
+    (&["union"], 64, "ip_lists: missing FILE after the command\n"),
     (
         &["except", "a"],
         64,
-        "ip_lists: too few words after the command\n",
+        "ip_lists: missing FILE after the command\n",
     ),
     (
         &["at-least", "2"],
         64,
-        "ip_lists: too few words after the command\n",
+        "ip_lists: missing FILE after the command\n",
     ),
     (
         &["at-least", "two", "a"],
@@ -63,7 +60,7 @@ static ROWS: [Row; 24] = [
     (
         &["at-least", "two"],
         64,
-        "ip_lists: too few words after the command\n",
+        "ip_lists: missing FILE after the command\n",
     ),
     (
         &["at-least", "--", "-1", "a"],
@@ -75,22 +72,44 @@ static ROWS: [Row; 24] = [
         64,
         "ip_lists: not a number of lists: 18446744073709551616\n",
     ),
-    (&["has"], 64, "ip_lists: too few words after the command\n"),
+    (
+        &["has"],
+        64,
+        "ip_lists: missing ADDRESS and FILE after the command\n",
+    ),
+    (
+        &["at-least"],
+        64,
+        "ip_lists: missing K and FILE after the command\n",
+    ),
+    (
+        &["diff", "a"],
+        64,
+        "ip_lists: missing FILE after the command\n",
+    ),
+    (
+        &["diff", "a", "b", "c", "d"],
+        64,
+        "ip_lists: a word too many: c\n",
+    ),
+    (
+        &["diff", "a", "bad"],
+        2,
+        "bad:2: not an address, block or range: 10.0.0\n",
+    ),
+    (&["check"], 64, "ip_lists: missing FILE after the command\n"),
+    (&["check", "bad", "none"], 4, "none: entity not found\n"),
     (
         &["has", "10.0.0.1"],
         64,
-        "ip_lists: too few words after the command\n",
+        "ip_lists: missing FILE after the command\n",
     ),
     (
         &["has", "10.0.0.0/8", "a"],
         64,
         "ip_lists: not an address: 10.0.0.0/8\n",
     ),
-    (
-        &["count"],
-        64,
-        "ip_lists: too few words after the command\n",
-    ),
+    (&["count"], 64, "ip_lists: missing FILE after the command\n"),
     (&["--", "-4", "a"], 64, "ip_lists: unknown command: -4\n"),
     (&["-"], 64, "ip_lists: unknown command: -\n"),
     (
@@ -146,7 +165,7 @@ fn each_read_fails_in_turn(rt: HostRuntime) {
 }
 
 /// Command lines, and what each of them writes.
-static WRITTEN: [(&[&str], &[u8]); 4] = [
+static WRITTEN: [(&[&str], &[u8]); 6] = [
     (
         &["union", "a", "b"],
         b"10.0.0.0/29\n2001:db8::/127\n2001:db8::2\n",
@@ -160,6 +179,11 @@ static WRITTEN: [(&[&str], &[u8]); 4] = [
         b"IPv4 addresses: 8, blocks: 1\nIPv6 addresses: 3, blocks: 2\n",
     ),
     (&["has", "10.0.0.6", "a", "b"], b"a\nb\n"),
+    (&["diff", "b", "empty", "-4"], b"-10.0.0.6/31\n"),
+    (
+        &["check", "bad"],
+        b"bad:2: not an address, block or range: 10.0.0\nbad:3: a length above 32: 10.0.0.0/33\n",
+    ),
 ];
 
 /// Whether a write that fails after the given number of bytes is reported, and what came before it
@@ -219,4 +243,37 @@ fn status_is_kept(alloc: Global) -> bool {
 #[test]
 fn an_unreported_fault_keeps_its_status(rt: HostRuntime) {
     assert!(rt; status_is_kept(rt.alloc()));
+}
+
+/// A writer whose reader went away.
+#[derive(Drop)]
+struct Broken;
+
+impl Write for Broken {
+    fn write(&mut self, _buf: &[u8]) -> io::Result<usize> {
+        Err(io::Error::from(ErrorKind::BrokenPipe))
+    }
+
+    fn flush(&mut self) -> io::Result<()> {
+        Ok(())
+    }
+}
+
+/// Whether the status is 0 and nothing is reported if the reader of the output went away.
+fn ends_in_silence(alloc: Global, words: &[&str]) -> bool {
+    let inputs = Held {
+        alloc,
+        files: &FILES,
+        good: usize::MAX,
+    };
+    let mut errors = Vec::new(alloc);
+    let code = start(alloc, words, &inputs, &mut Broken, &mut errors);
+    code == ExitCode::SUCCESS && errors.is_empty()
+}
+
+#[test]
+fn a_reader_that_went_away_is_not_reported(rt: HostRuntime) {
+    for (words, _) in &WRITTEN {
+        assert!(rt; ends_in_silence(rt.alloc(), *words), "{words:?}");
+    }
 }

@@ -69,6 +69,6 @@ fn a_list_is_read_past_a_million_parts(rt: HostRuntime) {
 
 #[test]
 fn a_bad_line_past_a_million_parts_is_counted(rt: HostRuntime) {
-    let line = b"a:2200001: not an address, block or range\n";
+    let line = b"a:2200001: not an address, block or range: ?\n";
     assert!(rt; ends(rt.alloc(), b'?', 2, b"", line));
 }

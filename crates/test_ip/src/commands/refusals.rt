@@ -11,20 +11,28 @@ use test_support::Counting;
 type Heap = Counting<Global>;
 
 /// Commands that allocate.
-static COMMANDS: [&[&str]; 8] = [
-    &["union", "a", "b"],
-    &["common", "a", "b", "--ranges"],
-    &["except", "a", "b"],
-    &["odd", "a", "b", "all"],
-    &["at-least", "2", "a", "b"],
-    &["complement", "a", "b"],
-    &["count", "a", "b"],
-    &["has", "10.0.0.6", "a", "b"],
+static COMMANDS: [(&[&str], u8); 10] = [
+    (&["union", "a", "b"], 0),
+    (&["common", "a", "b", "--ranges"], 0),
+    (&["except", "a", "b"], 0),
+    (&["odd", "a", "b", "all"], 0),
+    (&["at-least", "2", "a", "b"], 0),
+    (&["complement", "a", "b"], 0),
+    (&["count", "a", "b"], 0),
+    (&["has", "10.0.0.6", "a", "b"], 0),
+    (&["diff", "a", "b"], 1),
+    (&["check", "a", "bad"], 2),
 ];
 
-/// Whether a command succeeds with this many allocations. The result is `None` if it ends in a way
-/// that is neither success nor a failed allocation, or leaks.
-fn tried(alloc: Global, heap: &Heap, words: &[&str], allocations: usize) -> Option<bool> {
+/// Whether a command ends with its status with this many allocations. The result is `None` if it
+/// ends in a way that is neither this nor a failed allocation, or leaks.
+fn tried(
+    alloc: Global,
+    heap: &Heap,
+    words: &[&str],
+    status: u8,
+    allocations: usize,
+) -> Option<bool> {
     let inputs = Held {
         alloc,
         files: &FILES,
@@ -41,14 +49,14 @@ fn tried(alloc: Global, heap: &Heap, words: &[&str], allocations: usize) -> Opti
         let is_reported = errors.as_slice() == b"ip_lists: no memory\n".as_slice();
         return (output.is_empty() && is_reported).then_some(false);
     }
-    (code == ExitCode::SUCCESS && errors.is_empty() && !output.is_empty()).then_some(true)
+    (code == ExitCode::from(status) && errors.is_empty() && !output.is_empty()).then_some(true)
 }
 
 /// Returns how many allocations a command needs, or `None` if a try goes wrong.
-fn needed(alloc: Global, words: &[&str]) -> Option<usize> {
+fn needed(alloc: Global, words: &[&str], status: u8) -> Option<usize> {
     let heap = Heap::new(alloc);
     for allocations in 0..1000usize {
-        if tried(alloc, &heap, words, allocations)? {
+        if tried(alloc, &heap, words, status, allocations)? {
             return Some(allocations);
         }
     }
@@ -57,9 +65,9 @@ fn needed(alloc: Global, words: &[&str]) -> Option<usize> {
 
 #[test]
 fn each_allocation_fails_in_turn(rt: HostRuntime) {
-    for words in &COMMANDS {
+    for (words, status) in &COMMANDS {
         assert!(rt;
-            matches!(needed(rt.alloc(), *words), Some(3..)),
+            matches!(needed(rt.alloc(), *words, *status), Some(3..)),
             "{words:?}"
         );
     }

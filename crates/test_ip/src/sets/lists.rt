@@ -1,7 +1,7 @@
 //! Lists, and what they select.
 
 use crate::sets::address_set::are;
-use ip_sets::{ListFault, read_list};
+use ip_sets::{BadLine, ListFault, read_list};
 use std::alloc::Global;
 use std::io::{self, BufReader, ErrorKind, Read};
 use std::test::*;
@@ -19,7 +19,7 @@ fn selects(alloc: Global, text: &str, v4: &[(u32, u32)], v6: &[(u128, u128)]) ->
 fn bad_line(alloc: Global, text: &str) -> Option<u64> {
     let mut input = text.as_bytes();
     match read_list(alloc, &mut input) {
-        Err(ListFault::BadLine(number)) => Some(number),
+        Err(ListFault::BadLine(bad)) => Some(bad.number),
         _ => None,
     }
 }
@@ -119,7 +119,7 @@ fn bad_lines_are_counted_over_parts_of_the_input(rt: HostRuntime) -> Result<(), 
         assert!(rt;
             matches!(
                 read_list(rt.alloc(), &mut input),
-                Err(ListFault::BadLine(4))
+                Err(ListFault::BadLine(BadLine { number: 4, .. }))
             ),
             "at {capacity}"
         );

@@ -1,6 +1,6 @@
 //! Lines of more than 100,000 bytes.
 
-use ip_sets::{AddressList, ListFault, read_list};
+use ip_sets::{AddressList, BadLine, ListFault, read_list};
 use std::alloc::{AllocError, Global};
 use std::io::BufReader;
 use std::test::*;
@@ -57,7 +57,7 @@ fn long_bad_lines_are_counted(rt: HostRuntime) -> Result<(), Fail> {
         let mut input = text.as_slice();
         let result = read_list(rt.alloc(), &mut input);
         assert!(rt;
-            matches!(result, Err(ListFault::BadLine(2))),
+            matches!(result, Err(ListFault::BadLine(BadLine { number: 2, .. }))),
             "at {before:?}"
         );
     }

@@ -45,7 +45,7 @@ fn seventy_thousand_lines_are_read(rt: HostRuntime) -> Result<(), Fail> {
 fn bad_line(alloc: Global, text: &[u8]) -> Option<u64> {
     let mut input = text;
     match read_list(alloc, &mut input) {
-        Err(ListFault::BadLine(number)) => Some(number),
+        Err(ListFault::BadLine(bad)) => Some(bad.number),
         _ => None,
     }
 }

@@ -8,8 +8,8 @@ use crate::sets::selections::selected;
 use ip_sets::selection::{v4_ranges, v6_ranges};
 use ip_sets::{
     AddressList, AddressSet, IntoBlocks, Line, ListFault, blocks_of, combine, parse_line,
-    read_list, set_blocks, v4_block_text, v4_range_text, v4_text, v6_block_text, v6_range_text,
-    v6_text,
+    read_list, read_list_past_bad_lines, set_blocks, v4_block_text, v4_range_text, v4_text,
+    v6_block_text, v6_range_text, v6_text,
 };
 use range_set_blaze::{RangeSetBlaze, UIntPlusOne};
 use std::alloc::{AllocError, Global};
@@ -43,6 +43,7 @@ enum Call {
     SetBlocks,
     FromRanges,
     ReadList,
+    ReadListPastBadLines,
     V4Ranges,
     V6Ranges,
     /// The operation of a row on the three lists.
@@ -60,7 +61,7 @@ impl Call {
 }
 
 /// All calls except those of the rows.
-static CALLS: [Call; 18] = [
+static CALLS: [Call; 19] = [
     Call::V4Text,
     Call::V4BlockText,
     Call::V4RangeText,
@@ -71,6 +72,7 @@ static CALLS: [Call; 18] = [
     Call::SetBlocks,
     Call::FromRanges,
     Call::ReadList,
+    Call::ReadListPastBadLines,
     Call::V4Ranges,
     Call::V6Ranges,
     Call::Read(Reading::ParseLine),
@@ -101,6 +103,17 @@ fn reads_right(heap: &Heap) -> Result<bool, AllocError> {
         return Ok(false);
     };
     Ok(list.v4.ranges_len() == 12 && list.v6.ranges_len() == 1)
+}
+
+/// Returns whether a list is read right past its bad lines.
+fn reads_past_right(heap: &Heap) -> Result<bool, AllocError> {
+    let mut told = Vec::new(heap);
+    let mut input = "0.0.0.4\nx\n1.2.3 # and a comment\n0.0.0.5".as_bytes();
+    match read_list_past_bad_lines(heap, &mut input, "it", &mut told) {
+        Ok(list) => Ok(list.v4.len() == 2 && told.len() == 76),
+        Err(ListFault::NoMemory) => Err(AllocError),
+        Err(_) => Ok(false),
+    }
 }
 
 /// Returns whether a set is made of the IPv4 addresses of the first list, which are 1 to 5.
@@ -156,6 +169,7 @@ fn is_right<'a>(
         Call::SetBlocks => set_blocks(heap, set)?.len() == 32,
         Call::FromRanges => makes_right(heap, lists)?,
         Call::ReadList => reads_right(heap)?,
+        Call::ReadListPastBadLines => reads_past_right(heap)?,
         Call::V4Ranges => v4_ranges(heap, lists)?.len() == 3,
         Call::V6Ranges => v6_ranges(heap, lists)?.len() == 3,
         Call::Combine(row) => {

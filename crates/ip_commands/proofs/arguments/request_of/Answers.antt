@@ -1,6 +1,6 @@
 use Rattle.std.proofs.Common.{◌∙◌, ℕ, ◌-◌, ◌∷◌, Bor, List, drop, length, map, refl, ap, take}
 use Rattle.std.specs.Prelude.{codes}
-use Rattle.ip_commands.proofs.lemmas.CommandLine.{first-rest, no-command, of-operation}
+use Rattle.ip_commands.proofs.lemmas.CommandLine.{first-rest, no-command, of-command, of-operation}
 use Rattle.ip_commands.proofs.arguments.request_of.Goals as goal
 
 -- The words behind the command.
@@ -45,6 +45,15 @@ returns-in-complement c =
     (rest c.args.operands.now) c.combination-in-complement.result parts refl
     (c.combination-in-complement.ensures.request _ parts) c.combination-in-complement.ensures.misuse
 
+-- The command `diff`.
+pub returns-in-diff : goal.returns-in-diff
+returns-in-diff c =
+    let parts = first-rest (λ word. word.now) c.args.operands.now _ c.in-len1-up.len_at_least
+    ∙ ap (λ command. command ∷ map (λ word. word.now) (rest c.args.operands.now)) c.in-diff.is in
+    of-command c.args.options.form c.args.options.families _
+    (codes "diff" ∷ map (λ word. word.now) (rest c.args.operands.now)) c.diff.result parts
+    c.diff.ensures.request c.diff.ensures.misuse
+
 -- Another word.
 pub returns-in_default-command : goal.returns-in_default-command
 returns-in_default-command c = (
@@ -53,5 +62,6 @@ returns-in_default-command c = (
   no-command _ c.in_default-command.not-union c.in_default-command.not-common
       c.in_default-command.not-except c.in_default-command.not-odd c.in_default-command.not-text
       c.in_default-command.not-complement c.in_default-command.not-count
-      c.in_default-command.not-has,
+      c.in_default-command.not-has c.in_default-command.not-diff
+      c.in_default-command.not-check,
 )

@@ -1,7 +1,6 @@
 use Rattle.std.proofs.Common.{subst, sym}
 use Rattle.std.specs.Prelude.{IfErr}
-use Rattle.ip_commands.specs.Files.{IsFirstFault}
-use Rattle.ip_commands.specs.Request.{files_of}
+use Rattle.ip_commands.specs.Request.{IsFirstFaultOf}
 use Rattle.ip_commands.proofs.lemmas.Files.{passed-on}
 use Rattle.ip_commands.proofs.commands.run.Goals as goal
 
@@ -12,9 +11,9 @@ returns-in_err-write_combination-in-Combine-clause-first g c =
     let bytes = g.I.Inputs.bytes c.args.inputs.now in
     let fault = c.in_err-write_combination-in-Combine.field-0.0 in
     passed-on c.from_residual-in_err-write_combination-in-Combine.result fault
-    (IsFirstFault bytes (files_of c.args.request))
+    (IsFirstFaultOf bytes c.args.request)
     c.from_residual-in_err-write_combination-in-Combine.ensures.1
-    (subst (λ each. IsFirstFault bytes (files_of each) fault) (sym c.in-Combine.is)
+    (subst (λ each. IsFirstFaultOf bytes each fault) (sym c.in-Combine.is)
     c.in_err-write_combination-in-Combine.ensures.first)
 
 -- A fault of `count`.
@@ -24,14 +23,28 @@ returns-in_err-write_counts-in-Count-clause-first g c =
     let bytes = g.I.Inputs.bytes c.args.inputs.now in
     let fault = c.in_err-write_counts-in-Count.field-0.0 in
     passed-on c.from_residual-in_err-write_counts-in-Count.result fault
-    (IsFirstFault bytes (files_of c.args.request))
+    (IsFirstFaultOf bytes c.args.request)
     c.from_residual-in_err-write_counts-in-Count.ensures.1
-    (subst (λ each. IsFirstFault bytes (files_of each) fault) (sym c.in-Count.is)
+    (subst (λ each. IsFirstFaultOf bytes each fault) (sym c.in-Count.is)
     c.in_err-write_counts-in-Count.ensures.first)
 
 -- A fault of `has`.
 pub returns-in-Has-clause-first : goal.returns-in-Has-clause-first
 returns-in-Has-clause-first g c =
     let bytes = g.I.Inputs.bytes c.args.inputs.now in
-    subst (λ each. IfErr c.write_names.result (IsFirstFault bytes (files_of each)))
+    subst (λ each. IfErr c.write_names.result (IsFirstFaultOf bytes each))
     (sym c.in-Has.is) c.write_names.ensures.first
+
+-- A fault of `check`.
+pub returns-in-Check-clause-first : goal.returns-in-Check-clause-first
+returns-in-Check-clause-first g c =
+    let bytes = g.I.Inputs.bytes c.args.inputs.now in
+    subst (λ each. IfErr c.write_reports.result (IsFirstFaultOf bytes each))
+    (sym c.in-Check.is) c.write_reports.ensures.fault
+
+-- A fault of `diff`.
+pub returns-in-Diff-clause-first : goal.returns-in-Diff-clause-first
+returns-in-Diff-clause-first g c =
+    let bytes = g.I.Inputs.bytes c.args.inputs.now in
+    subst (λ each. IfErr c.write_diff.result (IsFirstFaultOf bytes each))
+    (sym c.in-Diff.is) c.write_diff.ensures.first

@@ -1,5 +1,6 @@
-use Rattle.std.proofs.Common.{inr, refl}
+use Rattle.std.proofs.Common.{inl, inr, map, refl}
 use Rattle.std.specs.Prelude.{Err}
+use Rattle.std.specs.String.{string_bytes}
 use Rattle.ip_commands.proofs.lemmas.Appends.{Keeps-itself}
 use Rattle.ip_commands.proofs.process.start_from_env.Goals as goal
 
@@ -18,3 +19,9 @@ returns-in-Err g c = record {
     c.finish.ensures.quiet,
   );
 }
+
+-- The program ran on the words.
+pub returns-in-Ok : goal.returns-in-Ok
+returns-in-Ok g c =
+    let it = c.start.ensures.ends in
+    record { ends = (it.0, inl (map string_bytes c.deref.result.now, it.1), it.2, it.3) }

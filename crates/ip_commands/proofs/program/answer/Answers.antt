@@ -1,4 +1,4 @@
-use Rattle.ip_commands.proofs.lemmas.Program.{answered-good, ends-in, request-fault}
+use Rattle.ip_commands.proofs.lemmas.Program.{answered-first, answers-kept, ends-in, request-fault}
 use Rattle.ip_commands.specs.declared.fault.Fault.TheVariants.{NotWritten}
 use Rattle.ip_commands.proofs.program.answer.Goals as goal
 
@@ -24,6 +24,18 @@ returns-in_err-flush g c words are =
     (NotWritten c.in_err-flush.field-0.0) c.from_residual-in_err-flush.ensures.1 (
       c.in_ok-request.request,
       c.in_ok-request.ensures words are,
-      answered-good bytes words old (contents c.run.new.output) c.in_ok-request.request
-          c.in_ok-outcome.outcome c.in_ok-outcome.ensures.answers,
+      answered-first bytes words old (contents c.run.new.output) c.in_ok-request.request
+          c.in_ok-outcome.outcome c.in_err-flush.field-0.0 c.in_ok-outcome.ensures.answers,
+      tt,
     )
+
+-- The request was answered, and the output flushed.
+pub returns : goal.returns
+returns g c = λ words are. (
+  c.in_ok-request.request,
+  c.in_ok-request.ensures words are,
+  answers-kept (g.I.Inputs.bytes c.args.inputs.now) c.in_ok-request.request c.in_ok-outcome.outcome
+      (g.W.Write.contents c.args.output.now) (g.W.Write.contents c.run.new.output)
+      (g.W.Write.contents c.flush.new.self) c.in_ok-outcome.ensures.answers
+      c.in_ok-flush.ensures.bytes,
+)

@@ -1,4 +1,4 @@
-use Rattle.std.proofs.Common.{refl, subst}
+use Rattle.std.proofs.Common.{◌++◌, refl, subst}
 use Rattle.std.specs.List.{flat_map}
 use Rattle.ip_sets.specs.BlocksLeft.{block_runs, blocks_may_give}
 use Rattle.ip_sets.proofs.lemmas.aligned.Left.{all-aligned, all-given}
@@ -13,7 +13,8 @@ loop-block-init g c = lays-nothing _ _
 -- One more block was laid.
 pub loop-block-preserved : goal.loop-block-preserved
 loop-block-preserved g c =
-    lays-item (block_line g.T.AddressText.text g.T.Integer.rank g.T.Address.width) _ _ _ _ _ _ _
+    lays-item (λ block. c.args.sign.now
+    ++ block_line g.T.AddressText.text g.T.Integer.rank g.T.Address.width block) _ _ _ _ _ _ _
     c.loop-block.yielded _ c.loop-block.invariant c.in_ok-make_room.ensures.laid c.lay_block.ensures
 
 -- The blocks that came are those of what the stream may give.
@@ -32,9 +33,10 @@ returns g c =
       at.0,
       at.1,
       (
-        flat_map (block_line g.T.AddressText.text rank width) items,
+        flat_map (λ block. c.args.sign.now
+            ++ block_line g.T.AddressText.text rank width block) items,
         record {
-          canonical = g.met.I.DrawDisjoint.canonical c.args.ranges c.requires at.0 at.1;
+          canonical = g.met.I.DrawDisjoint.canonical c.args.ranges c.requires.ready at.0 at.1;
           written = record {
             blocks = items;
             aligned = all-aligned rank width may items c.into_iter-block-iterator.result

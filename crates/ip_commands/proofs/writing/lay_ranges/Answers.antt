@@ -3,7 +3,7 @@ use Rattle.std.specs.Prelude.{Some, None}
 use Rattle.range_set_blaze.specs.Rank.{interval_of}
 use Rattle.range_set_blaze.specs.Runs.{Interval}
 use Rattle.range_set_blaze.proofs.lemmas.gathering.OneByOne.{taken-ordered}
-use Rattle.ip_commands.specs.Text.{range_line, ranges_text}
+use Rattle.ip_commands.specs.Text.{range_line, signed_ranges}
 use Rattle.ip_commands.proofs.lemmas.Laid.{lays-item, lays-nothing}
 use Rattle.ip_commands.proofs.lemmas.Lines.{line-of-run}
 use Rattle.ip_commands.proofs.writing.lay_ranges.Goals as goal
@@ -13,8 +13,8 @@ pub loop-range-init : goal.loop-range-init
 loop-range-init g c = (
   [],
   record {
-    ready = c.requires;
-    finite = (g.met.I.Draw.sorted c.args.ranges c.requires).ends;
+    ready = c.requires.ready;
+    finite = (g.met.I.Draw.sorted c.args.ranges c.requires.ready).ends;
     given = λ rest may. may;
     laid = lays-nothing _ _;
   },
@@ -32,7 +32,7 @@ loop-range-preserved g c =
     before.1.given (run ∷ rest) (g.met.I.Draw.answers c.loop-range.ranges t (Some c.in-Some.range)
     c.in-Some.ensures.steps rest may) in
     let ordered = taken-ordered g.T.Integer.value_count (g.I.Draw.may_give c.args.ranges)
-    (g.I.Draw.may_give t) (g.met.I.DrawDisjoint.canonical c.args.ranges c.requires) taken run given
+    (g.I.Draw.may_give t) (g.met.I.DrawDisjoint.canonical c.args.ranges c.requires.ready) taken run given
     (g.met.I.Draw.sorted t c.in-Some.ensures.goes.keeps).some in (
       taken ++ run ∷ [],
       record {
@@ -40,10 +40,11 @@ loop-range-preserved g c =
         finite = (c.in-Some.ensures.goes.on before.1.finite).1;
         given = λ rest may. subst (g.I.Draw.may_give c.args.ranges)
             (sym (append_assoc taken (run ∷ []) rest)) (given rest may);
-        laid = lays-item (λ (each : Interval). range_line text each.first each.last)
+        laid = lays-item (λ (each : Interval). c.args.sign.now ++ range_line text each.first each.last)
             _ _ _ _ _ _ _ taken run before.1.laid c.in_ok-make_room.ensures.laid
             (c.lay_range.ensures
-            ∙ ap (λ line. c.make_room.new.page.items ++ line) (line-of-run text g.T.Integer.rank c.in-Some.range ordered));
+            ∙ ap (λ line. c.make_room.new.page.items ++ (c.args.sign.now ++ line))
+            (line-of-run text g.T.Integer.rank c.in-Some.range ordered));
       },
     )
 
@@ -58,9 +59,9 @@ returns g c =
       taken,
       may,
       (
-        ranges_text g.T.AddressText.text taken,
+        signed_ranges c.args.sign.now g.T.AddressText.text taken,
         record {
-          canonical = g.met.I.DrawDisjoint.canonical c.args.ranges c.requires taken may;
+          canonical = g.met.I.DrawDisjoint.canonical c.args.ranges c.requires.ready taken may;
           written = refl;
         },
         c.loop-range.invariant.1.laid,

@@ -4,7 +4,7 @@ use Rattle.std.proofs.Common.{List, ◌++◌}
 use Rattle.std.specs.Iterator.{IsFinite, size}
 use Rattle.range_set_blaze.specs.Runs.{Interval}
 use Rattle.ip_commands.specs.Page.{Lays}
-use Rattle.ip_commands.specs.Text.{ranges_text}
+use Rattle.ip_commands.specs.Text.{signed_ranges}
 use Rattle.ip_commands.proofs.writing.lay_ranges.Given as goal
 
 abbrev pub invariant-loop-range : goal.invariant-loop-range
@@ -14,7 +14,7 @@ invariant-loop-range g l = (taken : List Interval) × record {
   given : (rest : List Interval) → g.I.Draw.may_give l.ranges rest
       → g.I.Draw.may_give l.fn.ranges (taken ++ rest);
   laid : Lays (g.W.Write.contents l.initial.output) (g.W.Write.contents l.output)
-      l.initial.page.items l.page.items (ranges_text g.T.AddressText.text taken);
+      l.initial.page.items l.page.items (signed_ranges l.sign g.T.AddressText.text taken);
 }
 
 abbrev pub decreases-loop-range : goal.decreases-loop-range

@@ -1,4 +1,4 @@
-use Rattle.ip_commands.specs.Text.{IsSetText}
+use Rattle.ip_commands.specs.Text.{IsSignedSet}
 use Rattle.ip_commands.proofs.lemmas.Laid.{lays-sent}
 use Rattle.ip_commands.proofs.writing.write_ranges.Goals as goal
 
@@ -6,6 +6,6 @@ use Rattle.ip_commands.proofs.writing.write_ranges.Goals as goal
 pub returns : goal.returns
 returns g c =
     lays-sent (g.I.Draw.may_give c.args.ranges)
-    (IsSetText g.T.AddressText.text g.T.Integer.rank g.T.Address.width g.T.Integer.value_count
+    (IsSignedSet c.args.sign.now g.T.AddressText.text g.T.Integer.rank g.T.Address.width g.T.Integer.value_count
     c.args.form) c.send.result _ _ _ _ _
     c.new-page.ensures c.in_ok-lay_stream.ensures c.send.ensures.written

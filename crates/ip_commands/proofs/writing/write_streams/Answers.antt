@@ -4,7 +4,7 @@ use Rattle.ip_commands.proofs.writing.write_streams.Goals as goal
 -- Both families were written.
 pub returns-in_ok-write_ranges-in-Both : goal.returns-in_ok-write_ranges-in-Both
 returns-in_ok-write_ranges-in-Both g c = λ these those first last.
-    both-selected c.args.combination.form c.args.combination.families these those
+    both-selected c.args.style.sign.now c.args.style.form c.args.style.families these those
     (g.F.Draw.may_give c.args.v4) (g.S.Draw.may_give c.args.v6) first last
     c.write_ranges-in-Both.result _ _ _ c.in-Both.is c.in_ok-write_ranges-in-Both.ensures
     c.write_ranges-in-Both.ensures
@@ -12,13 +12,13 @@ returns-in_ok-write_ranges-in-Both g c = λ these those first last.
 -- Only IPv4 was written.
 pub returns-in-V4 : goal.returns-in-V4
 returns-in-V4 g c = λ these those first last.
-    v4-selected c.args.combination.form c.args.combination.families these those
+    v4-selected c.args.style.sign.now c.args.style.form c.args.style.families these those
     (g.F.Draw.may_give c.args.v4) (g.S.Draw.may_give c.args.v6) first last
     c.write_ranges-in-V4.result _ _ c.in-V4.is c.write_ranges-in-V4.ensures
 
 -- Only IPv6 was written.
 pub returns-in-V6 : goal.returns-in-V6
 returns-in-V6 g c = λ these those first last.
-    v6-selected c.args.combination.form c.args.combination.families these those
+    v6-selected c.args.style.sign.now c.args.style.form c.args.style.families these those
     (g.F.Draw.may_give c.args.v4) (g.S.Draw.may_give c.args.v6) first last
     c.write_ranges-in-V6.result _ _ c.in-V6.is c.write_ranges-in-V6.ensures

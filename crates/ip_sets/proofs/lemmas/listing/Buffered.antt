@@ -1,6 +1,6 @@
 -- Lines that are read where a reader shows them.
-use Rattle.std.proofs.Common.{◌≡◌, ◌∙◌, ℕ, ◌+◌, ◌-◌, ◌<◌, ◌≤◌, eqb, false, List, [], ◌∷◌, ◌++◌, Option, Some, None, drop, length, refl, sym, ap, subst, arith, length-append}
-use Rattle.std.proofs.Math.Seq.{drop-append-add}
+use Rattle.std.proofs.Common.{◌≡◌, ◌∙◌, ℕ, ◌+◌, ◌-◌, ◌<◌, ◌≤◌, eqb, false, List, [], ◌∷◌, ◌++◌, Option, Some, None, drop, length, take, refl, sym, ap, subst, arith, length-append}
+use Rattle.std.proofs.Math.Seq.{drop-append-add, take-append_seam}
 use Rattle.std.proofs.lemmas.List.{drop-append-le, drop-drop, take-append-drop}
 use Rattle.std.proofs.lemmas.List.Elements.{All-head, All-tail}
 use Rattle.std.specs.Io.{StartsWith}
@@ -9,11 +9,12 @@ use Rattle.std.specs.Io.KnownBytes.{Keeps}
 use Rattle.std.specs.List.{All}
 use Rattle.std.specs.Prelude.{IfSome}
 use Rattle.ip_sets.specs.declared.list.gathered.Gathered.{Gathered}
-use Rattle.ip_sets.specs.Gathering.{AreGathered, AreGatheredBefore}
+use Rattle.ip_sets.specs.declared.list.bad_line.BadLine.{BadLine}
+use Rattle.ip_sets.specs.Gathering.{AreGathered, AreGatheredBefore, AreGatheredPast}
 use Rattle.ip_sets.specs.Line.{content}
-use Rattle.ip_sets.specs.List.{IsBadLine, IsPastBadLine}
+use Rattle.ip_sets.specs.List.{IsReportOf}
 use Rattle.ip_sets.proofs.lemmas.listing.LineEnds.{content_one}
-use Rattle.ip_sets.proofs.lemmas.listing.Reading.{first_bad, gathered_next}
+use Rattle.ip_sets.proofs.lemmas.listing.Reading.{gathered_next, gathered_past}
 
 -- ---- the bytes that a reader shows
 
@@ -59,6 +60,14 @@ through_feed (x ∷ line) after more one =
     let later = through_feed line after more (All-tail (λ byte. eqb byte 10 ≡ false) x line one) in
     (rw other (ap (λ front. x ∷ front) later.0), rw other later.1)
 
+-- What comes before what is left is the line.
+pub line_before : (rest line after : List ℕ) → rest ≡ line ++ 10 ∷ after
+    → take (length rest - length after - 1) rest ≡ line
+line_before rest line after parts =
+    let size = ap length parts ∙ length-append line (10 ∷ after) in
+    let place : length rest - length after - 1 ≡ length line = omega (arith, size) in
+    ap (λ n. take n rest) place ∙ ap (take (length line)) parts ∙ take-append_seam line (10 ∷ after)
+
 -- What is left past a line is shorter.
 pub left_shorter : (rest line after : List ℕ) → rest ≡ line ++ 10 ∷ after
     → length after < length rest
@@ -79,9 +88,10 @@ drop_on bytes rest line after within is parts =
     ∙ drop-drop (length line + 1) (length bytes - length rest) bytes
     ∙ ap (λ n. drop n bytes) place
 
-module _ {A : Type 0} (all rest line after more : List ℕ) (old : Gathered A)
-    (parts : rest ≡ line ++ 10 ∷ after) (one : All (λ byte. eqb byte 10 ≡ false) line)
-    (has : AreGatheredBefore all (rest ++ more) old) where
+module _ {A : Type 0} (reports : List BadLine) (all rest line after more : List ℕ)
+    (old : Gathered A) (parts : rest ≡ line ++ 10 ∷ after)
+    (one : All (λ byte. eqb byte 10 ≡ false) line)
+    (has : AreGatheredBefore reports all (rest ++ more) old) where
   -- The bytes begin with the line.
   known : rest ++ more ≡ (line ++ 10 ∷ after) ++ more
   known = ap (λ bytes. bytes ++ more) parts
@@ -104,13 +114,16 @@ module _ {A : Type 0} (all rest line after more : List ℕ) (old : Gathered A)
   -- The line up to the line feed is gathered.
   pub found_next : (new : Gathered A)
       → ((before : List (List ℕ)) (other : List ℕ) → content other ≡ content line
-      → AreGathered before old → AreGathered (before ++ other ∷ []) new)
-      → AreGatheredBefore all (after ++ more) new
-  found_next new adds = subst (λ left. AreGatheredBefore all left new) split.1
-      (gathered_next all (rest ++ more) line old has some same new adds)
+      → AreGathered reports before old → AreGathered reports (before ++ other ∷ []) new)
+      → AreGatheredBefore reports all (after ++ more) new
+  found_next new adds = subst (λ left. AreGatheredBefore reports all left new) split.1
+      (gathered_next reports all (rest ++ more) line old has some same new adds)
 
-  -- That line is the first bad one.
-  pub found_bad : (number : ℕ) → number ≡ old.number → IsBadLine line
-      → IsPastBadLine all (after ++ more) number
-  found_bad number is bad = subst (λ left. IsPastBadLine all left number) split.1
-      (first_bad all (rest ++ more) line old has some same number is bad)
+  -- That line has no meaning.
+  pub found_bad : (bad : BadLine) (new : Gathered A)
+      → ((before : List (List ℕ)) (other : List ℕ) → content other ≡ content line
+      → AreGathered reports before old → IsReportOf bad (length before + 1) other
+      × AreGathered (reports ++ bad ∷ []) (before ++ other ∷ []) new)
+      → AreGatheredPast reports bad all (after ++ more) new
+  found_bad bad new adds = subst (λ left. AreGatheredPast reports bad all left new) split.1
+      (gathered_past reports all (rest ++ more) line old has some same bad new adds)

@@ -9,7 +9,7 @@ use Rattle.range_set_blaze.specs.Selection.{Selection}
 use Rattle.ip_sets.specs.declared.line.Line.TheVariants.{Nothing, V4, V6}
 use Rattle.ip_sets.specs.Line.{MeansV4, MeansV6, content}
 use Rattle.ip_sets.specs.List.{HasAddress, IsGoodLine, IsListOf, contents, has_bytes}
-use Rattle.ip_sets.proofs.lemmas.listing.Reading.{same_meaning}
+use Rattle.ip_sets.proofs.lemmas.listing.Reports.{same_meaning}
 use Rattle.ip_sets.proofs.lemmas.listing.Selected.{empty_v4, empty_v6}
 
 -- What the lines have that counts.

@@ -1,5 +1,5 @@
 -- Lists that are read from an input, of which the bytes may be known.
-use Rattle.std.proofs.Common.{◌≡◌, ◌∙◌, ℕ, ◌+◌, ◌<◌, ◌≤◌, List, [], ◌∷◌, ◌++◌, Option, Some, None, Result, Ok, Err, length, refl, sym, ap, append-nil, arith}
+use Rattle.std.proofs.Common.{◌≡◌, ◌∙◌, ℕ, ◌+◌, ◌<◌, ◌≤◌, List, [], ◌∷◌, ◌++◌, Option, Some, None, Result, Ok, Err, length, refl, sym, ap, subst, append-nil, append_assoc, arith}
 use Rattle.std.specs.Io.BufRead.{DropsThrough, drop_through, take_through}
 use Rattle.std.specs.Io.KnownBytes.{IsAtEnd}
 use Rattle.std.specs.Prelude.{IfSome}
@@ -8,17 +8,19 @@ use Rattle.std.specs.Str.Lines.{lines}
 use Rattle.range_set_blaze.specs.Runs.{Interval, members}
 use Rattle.range_set_blaze.specs.Selection.{Selection}
 use Rattle.range_set_blaze.specs.Set.{IsSetOf}
+use Rattle.ip_sets.specs.declared.list.bad_line.BadLine.{BadLine}
 use Rattle.ip_sets.specs.declared.list.gathered.Gathered.{Gathered}
-use Rattle.ip_sets.specs.Gathering.{AreGathered, AreGatheredBefore, AreGatheredTo, gathered_v4, gathered_v6, range_count}
+use Rattle.ip_sets.specs.Gathering.{AreGathered, AreGatheredBefore, AreGatheredTo, StopsPast, gathered_v4, gathered_v6, range_count}
 use Rattle.ip_sets.specs.Line.{MeansV4, MeansV6, content}
-use Rattle.ip_sets.specs.List.{AreAddressesOf, IsBadLine, LeavesPastBadLine, IsListOf}
-use Rattle.ip_sets.proofs.lemmas.listing.Reading.{first_bad, gathered_next}
+use Rattle.ip_sets.specs.List.{AreAddressesOf, IsListOf, IsListPast, IsReportOf, LeavesPastBadLine}
+use Rattle.ip_sets.proofs.lemmas.listing.Reading.{gathered_next, gathered_past}
+use Rattle.ip_sets.proofs.lemmas.listing.Reports.{all_good}
 
--- What follows from a fact of the known bytes holds of them.
-pub IfSome-then : (known : Option (List ℕ)) (Fact Other : List ℕ → Type 0) → IfSome known Fact
-    → ((bytes : List ℕ) → Fact bytes → Other bytes) → IfSome known Other
-IfSome-then None Fact Other h weaker = tt
-IfSome-then (Some bytes) Fact Other h weaker = weaker bytes h
+-- What holds of bytes that are known to be these holds of the known bytes.
+pub IfSome-from : (known : Option (List ℕ)) (Fact : List ℕ → Type 0)
+    → ((bytes : List ℕ) → known ≡ Some bytes → Fact bytes) → IfSome known Fact
+IfSome-from None Fact holds = tt
+IfSome-from (Some bytes) Fact holds = holds bytes refl
 
 -- A fault is passed on as it is.
 pub same_fault : {T E : Type 0} (result : Result T E) (fault other : E) → result ≡ Err other
@@ -57,58 +59,99 @@ same_addresses Means list old new same are number = (
 
 module _ {A : Type 0} where
   -- Nothing is gathered at the start.
-  pub known_start : (start : Option (List ℕ)) (gathered : Gathered A)
-      → ((bytes : List ℕ) → AreGatheredBefore bytes bytes gathered)
-      → IfSome start (λ bytes. AreGatheredTo bytes start gathered)
-  known_start None gathered none = tt
-  known_start (Some bytes) gathered none = (bytes, refl, none bytes)
+  pub known_start : (bytes : List ℕ) (left : Option (List ℕ)) (gathered : Gathered A)
+      → left ≡ Some bytes → ((bytes : List ℕ) → AreGatheredBefore [] bytes bytes gathered)
+      → AreGatheredTo [] bytes left gathered
+  known_start bytes left gathered is none = (bytes, is, none bytes)
 
-  module _ (all : List ℕ) (before after : Option (List ℕ)) (buffer line : List ℕ)
-      (old : Gathered A) (has : AreGatheredTo all before old) (empty : buffer ≡ [])
-      (bytes : IfSome before (λ known. line ≡ buffer ++ take_through 10 known))
+  module _ (reports : List BadLine) (all : List ℕ) (before after : Option (List ℕ))
+      (buffer line : List ℕ) (old : Gathered A) (has : AreGatheredTo reports all before old)
+      (empty : buffer ≡ []) (bytes : IfSome before (λ known. line ≡ buffer ++ take_through 10 known))
       (drops : DropsThrough before after 10) where
     -- The line that was read is gathered.
     pub read_next : 0 < length line → (new : Gathered A)
         → ((before : List (List ℕ)) (other : List ℕ) → content other ≡ content line
-        → AreGathered before old → AreGathered (before ++ other ∷ []) new)
-        → AreGatheredTo all after new
+        → AreGathered reports before old → AreGathered reports (before ++ other ∷ []) new)
+        → AreGatheredTo reports all after new
     read_next some new adds =
         let read = read_line before after buffer line has.0 has.1 empty bytes drops in (
           drop_through 10 has.0,
           read.1,
-          gathered_next all has.0 line old has.2 (omega (arith, some, ap length read.0))
+          gathered_next reports all has.0 line old has.2 (omega (arith, some, ap length read.0))
               (ap content read.0) new adds,
         )
 
-    -- It is the first bad one.
-    pub read_bad : 0 < length line → (number : ℕ) → number ≡ old.number → IsBadLine line
-        → LeavesPastBadLine all after number
-    read_bad some number is bad =
+    -- It has no meaning.
+    pub read_bad : 0 < length line → (bad : BadLine) (new : Gathered A)
+        → ((before : List (List ℕ)) (other : List ℕ) → content other ≡ content line
+        → AreGathered reports before old → IsReportOf bad (length before + 1) other
+        × AreGathered (reports ++ bad ∷ []) (before ++ other ∷ []) new)
+        → StopsPast reports bad all after new
+    read_bad some bad new adds =
         let read = read_line before after buffer line has.0 has.1 empty bytes drops in (
           drop_through 10 has.0,
           read.1,
-          first_bad all has.0 line old has.2 (omega (arith, some, ap length read.0))
-              (ap content read.0) number is bad,
+          gathered_past reports all has.0 line old has.2 (omega (arith, some, ap length read.0))
+              (ap content read.0) bad new adds,
         )
 
     -- At the end of the input nothing is left.
-    pub read_none : IsAtEnd before → after ≡ Some []
+    pub read_none : IsAtEnd before → AreGatheredTo reports all (Some []) old × (after ≡ Some [])
     read_none end =
         let read = read_line before after buffer line has.0 has.1 empty bytes drops in
-        read.1 ∙ ap (λ left. Some (drop_through 10 left)) (none_left before has.0 has.1 end)
+        let none = none_left before has.0 has.1 end in (
+          ([], refl, subst (λ rest. AreGatheredBefore reports all rest old) none has.2),
+          read.1 ∙ ap (λ left. Some (drop_through 10 left)) none,
+        )
 
-  module _ (all : List ℕ) (before : Option (List ℕ)) (gathered : Gathered A)
-      (has : AreGatheredTo all before gathered) (end : IsAtEnd before) (v4 v6 : List Interval) where
+  -- A line that has no meaning was read past.
+  pub read_past : (reports : List BadLine) (bad : BadLine) (all : List ℕ)
+      (left : Option (List ℕ)) (gathered : Gathered A) → StopsPast reports bad all left gathered
+      → AreGatheredTo (reports ++ bad ∷ []) all left gathered
+  read_past reports bad all left gathered has = (
+    has.0,
+    has.1,
+    record {
+      before = has.2.before ++ has.2.line ∷ [];
+      parts = has.2.parts
+          ∙ sym (append_assoc has.2.before (has.2.line ∷ []) (lines has.0));
+      so_far = has.2.so_far;
+    },
+  )
+
+  -- The first of these is the first bad line.
+  pub past_first : (bad : BadLine) (all : List ℕ) (left : Option (List ℕ)) (gathered : Gathered A)
+      → StopsPast [] bad all left gathered → LeavesPastBadLine all left bad
+  past_first bad all left gathered has = (
+    has.0,
+    has.1,
+    (
+      record {
+        before = has.2.before;
+        line = has.2.line;
+        after = lines has.0;
+        parts = has.2.parts;
+        report = has.2.report;
+        first = all_good 1 has.2.before has.2.earlier;
+      },
+      refl,
+    ),
+  )
+
+  module _ (reports : List BadLine) (all : List ℕ) (gathered : Gathered A)
+      (has : AreGatheredTo reports all (Some []) gathered) (v4 v6 : List Interval) where
     -- At the end of the input, all lines were gathered.
     every : lines all ≡ has.2.before
-    every = has.2.parts ∙ ap (λ rest. has.2.before ++ lines rest) (none_left before has.0 has.1 end)
-        ∙ append-nil has.2.before
+    every =
+        let none : has.0 ≡ [] = cc has.1 in
+        has.2.parts ∙ ap (λ rest. has.2.before ++ lines rest) none ∙ append-nil has.2.before
 
-    -- At the end of the input, the sets of what is gathered are those of the list.
-    pub all_read : IsSetOf v4 (gathered_v4 gathered) → IsSetOf v6 (gathered_v6 gathered)
-        → IsListOf all (members v4) (members v6)
-    all_read is4 is6 = record {
-      good = rw every has.2.so_far.good;
+    -- At the end of the input, the sets of what is gathered are those of the list past its bad
+    -- lines.
+    pub all_read_past : IsSetOf v4 (gathered_v4 gathered) → IsSetOf v6 (gathered_v6 gathered)
+        → IsListPast all reports (members v4) (members v6)
+    all_read_past is4 is6 = record {
+      reported = rw every has.2.so_far.reported;
       v4_addresses = rw every (same_addresses MeansV4 has.2.before (gathered_v4 gathered)
           (members v4) is4 has.2.so_far.v4_addresses);
       v6_addresses = rw every (same_addresses MeansV6 has.2.before (gathered_v6 gathered)
@@ -119,3 +162,12 @@ module _ {A : Type 0} where
     pub few_read : length v4 + length v6 ≤ range_count gathered
         → length v4 + length v6 ≤ length (lines all)
     few_read few = omega (arith, few, has.2.so_far.few, ap length every)
+
+-- A list past no bad lines is a list.
+pub good_list : (all : List ℕ) (v4 v6 : Selection) → IsListPast all [] v4 v6
+    → IsListOf all v4 v6
+good_list all v4 v6 past = record {
+  good = all_good 1 (lines all) past.reported;
+  v4_addresses = past.v4_addresses;
+  v6_addresses = past.v6_addresses;
+}

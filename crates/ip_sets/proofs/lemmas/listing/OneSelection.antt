@@ -3,6 +3,7 @@ use Rattle.std.proofs.Common.{◌≡◌, ◌∙◌, ℕ, suc, ◌+◌, Bool, tru
 use Rattle.std.proofs.lemmas.List.Elements.{All-head, All-tail}
 use Rattle.std.specs.Prelude.{All, IsTrue}
 use Rattle.range_set_blaze.specs.Selection.{Selection}
+use Rattle.ip_sets.specs.declared.list.bad_line.BadLine.{BadLine}
 use Rattle.ip_sets.specs.List.{AreAddressesOf, IsBadLine, IsFirstBadLine, IsGoodLine, IsListOf}
 
 -- Tests that imply each other are equal.
@@ -28,10 +29,10 @@ bad_inside (first ∷ before) line after good bad =
     bad_inside before line after (All-tail IsGoodLine first (before ++ line ∷ after) good) bad
 
 -- A list that selects addresses has no first bad line.
-pub not_both : (bytes : List ℕ) (v4 v6 : Selection) (number : ℕ) → IsListOf bytes v4 v6
-    → ¬ IsFirstBadLine bytes number
-not_both bytes v4 v6 number list h =
-    bad_inside h.before h.line h.after (subst (All IsGoodLine) h.parts list.good) h.bad
+pub not_both : (bytes : List ℕ) (v4 v6 : Selection) (bad : BadLine) → IsListOf bytes v4 v6
+    → ¬ IsFirstBadLine bytes bad
+not_both bytes v4 v6 bad list h =
+    bad_inside h.before h.line h.after (subst (All IsGoodLine) h.parts list.good) h.report.is_bad
 
 -- Two first bad lines have as many lines before them.
 same_place : (before others : List (List ℕ)) (line other : List ℕ) (after rest : List (List ℕ))
@@ -52,9 +53,9 @@ same_place (first ∷ before) (second ∷ others) line other after rest same bad
     (All-tail IsGoodLine first before good) (All-tail IsGoodLine second others good_too))
 
 -- Two first bad lines have the same number.
-pub one_bad_line : (bytes : List ℕ) (number other : ℕ) → IsFirstBadLine bytes number
-    → IsFirstBadLine bytes other → number ≡ other
-one_bad_line bytes number other h k =
+pub one_bad_line : (bytes : List ℕ) (bad other : BadLine) → IsFirstBadLine bytes bad
+    → IsFirstBadLine bytes other → bad.number ≡ other.number
+one_bad_line bytes bad other h k =
     let same = same_place h.before k.before h.line k.line h.after k.after (sym h.parts ∙ k.parts)
-    h.bad k.bad h.first k.first in
-    h.counted ∙ ap (λ n. n + 1) same ∙ sym k.counted
+    h.report.is_bad k.report.is_bad h.first k.first in
+    h.report.counted ∙ ap (λ n. n + 1) same ∙ sym k.report.counted

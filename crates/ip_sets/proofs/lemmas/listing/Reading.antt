@@ -1,33 +1,26 @@
 -- Lines that are read one after the other.
 use Rattle.std.proofs.Common.{◌≡◌, ◌∙◌, ℕ, ◌+◌, ◌<◌, ◌≤◌, List, [], ◌∷◌, ◌++◌, length, refl, sym, ap, append_assoc, arith, length-append}
-use Rattle.std.proofs.lemmas.List.Elements.{All-push}
 use Rattle.std.specs.Io.BufRead.{drop_through, take_through}
 use Rattle.std.specs.Str.Lines.{lines}
 use Rattle.ip_sets.specs.declared.line.Line.{Line}
-use Rattle.ip_sets.specs.declared.line.Line.TheVariants.{Nothing, V4, V6}
+use Rattle.ip_sets.specs.declared.list.bad_line.BadLine.{BadLine}
 use Rattle.ip_sets.specs.declared.list.gathered.Gathered.{Gathered}
-use Rattle.ip_sets.specs.Gathering.{AreGathered, AreGatheredBefore, gathered_v4, gathered_v6, range_count}
+use Rattle.ip_sets.specs.Gathering.{AreGathered, AreGatheredBefore, AreGatheredPast, gathered_v4, gathered_v6, range_count}
 use Rattle.ip_sets.specs.Line.{IsLine, MeansV4, MeansV6, content}
-use Rattle.ip_sets.specs.List.{AddsAddressesOf, IsBadLine, IsPastBadLine, IsGoodLine}
+use Rattle.ip_sets.specs.List.{AddsAddressesOf, IsReportOf}
 use Rattle.ip_sets.proofs.lemmas.listing.FirstLine.{first_line}
+use Rattle.ip_sets.proofs.lemmas.listing.Reports.{bad_adds_no_v4, bad_adds_no_v6, reports_bad, reports_good}
 use Rattle.ip_sets.proofs.lemmas.listing.Selected.{addresses_more, addresses_none}
-
--- A line has the meaning of another with the same content.
-pub same_meaning : (line other : List ℕ) → content line ≡ content other → (what : Line)
-    → IsLine other what → IsLine line what
-same_meaning line other is Nothing h = is ∙ h
-same_meaning line other is (V4 range) h = rw is h
-same_meaning line other is (V6 range) h = rw is h
 
 module _ {A : Type 0} where
   -- Nothing is gathered at the start.
   pub gathered_none : (bytes : List ℕ) (start : Gathered A) → start.number ≡ 1
-      → start.v4.items ≡ [] → start.v6.items ≡ [] → AreGatheredBefore bytes bytes start
+      → start.v4.items ≡ [] → start.v6.items ≡ [] → AreGatheredBefore [] bytes bytes start
   gathered_none bytes start first none none_too = record {
     before = [];
     parts = refl;
     so_far = record {
-      good = λ k d within. absurd (omega (arith, within));
+      reported = refl;
       next = first;
       v4_addresses = addresses_none MeansV4 (gathered_v4 start) (λ number. rw none refl);
       v6_addresses = addresses_none MeansV6 (gathered_v6 start) (λ number. rw none_too refl);
@@ -36,14 +29,15 @@ module _ {A : Type 0} where
   }
 
   -- One more line is gathered.
-  pub gathered_line : (list : List (List ℕ)) (line : List ℕ) (what : Line) (old new : Gathered A)
-      → AreGathered list old → IsLine line what → new.number ≡ old.number + 1
+  pub gathered_line : (reports : List BadLine) (list : List (List ℕ)) (line : List ℕ) (what : Line)
+      (old new : Gathered A) → AreGathered reports list old → IsLine line what
+      → new.number ≡ old.number + 1
       → AddsAddressesOf MeansV4 line (gathered_v4 old) (gathered_v4 new)
       → AddsAddressesOf MeansV6 line (gathered_v6 old) (gathered_v6 new)
-      → range_count new ≤ range_count old + 1 → AreGathered (list ++ line ∷ []) new
-  gathered_line list line what old new has is next adds4 adds6 few =
+      → range_count new ≤ range_count old + 1 → AreGathered reports (list ++ line ∷ []) new
+  gathered_line reports list line what old new has is next adds4 adds6 few =
       let size = length-append list (line ∷ []) in record {
-        good = All-push IsGoodLine list line has.good (what, is);
+        reported = reports_good 1 list line reports has.reported (what, is);
         next = omega (arith, has.next, next, size);
         v4_addresses = addresses_more MeansV4 list line (gathered_v4 old) (gathered_v4 new)
             has.v4_addresses adds4;
@@ -52,15 +46,34 @@ module _ {A : Type 0} where
         few = omega (arith, has.few, few, size);
       }
 
+  -- One more line has no meaning, and is passed over.
+  pub gathered_bad : (reports : List BadLine) (list : List (List ℕ)) (line : List ℕ)
+      (bad : BadLine) (old new : Gathered A) → AreGathered reports list old
+      → IsReportOf bad (length list + 1) line → new.number ≡ old.number + 1 → new.v4 ≡ old.v4
+      → new.v6 ≡ old.v6 → AreGathered (reports ++ bad ∷ []) (list ++ line ∷ []) new
+  gathered_bad reports list line bad old new has report next v4 v6 =
+      let size = length-append list (line ∷ []) in
+      let same4 = ap (λ pairs. length pairs.items) v4 in
+      let same6 = ap (λ pairs. length pairs.items) v6 in record {
+        reported = reports_bad 1 list line reports bad (length list + 1) (omega arith) has.reported
+            report;
+        next = omega (arith, has.next, next, size);
+        v4_addresses = addresses_more MeansV4 list line (gathered_v4 old) (gathered_v4 new)
+            has.v4_addresses (rw v4 (bad_adds_no_v4 line (gathered_v4 old) report.is_bad));
+        v6_addresses = addresses_more MeansV6 list line (gathered_v6 old) (gathered_v6 new)
+            has.v6_addresses (rw v6 (bad_adds_no_v6 line (gathered_v6 old) report.is_bad));
+        few = omega (arith, has.few, same4, same6, size);
+      }
+
   -- A line with the content of the first line of the bytes that are left.
-  module _ (all known raw : List ℕ) (old : Gathered A) (has : AreGatheredBefore all known old)
-      (some : 0 < length (take_through 10 known))
+  module _ (reports : List BadLine) (all known raw : List ℕ) (old : Gathered A)
+      (has : AreGatheredBefore reports all known old) (some : 0 < length (take_through 10 known))
       (same : content raw ≡ content (take_through 10 known)) where
     -- If that line is added, the lines after it are left to gather.
     pub gathered_next : (new : Gathered A)
         → ((before : List (List ℕ)) (line : List ℕ) → content line ≡ content raw
-        → AreGathered before old → AreGathered (before ++ line ∷ []) new)
-        → AreGatheredBefore all (drop_through 10 known) new
+        → AreGathered reports before old → AreGathered reports (before ++ line ∷ []) new)
+        → AreGatheredBefore reports all (drop_through 10 known) new
     gathered_next new adds =
         let next = first_line known some in record {
           before = has.before ++ next.0 ∷ [];
@@ -69,19 +82,19 @@ module _ {A : Type 0} where
           so_far = adds has.before next.0 (next.2 ∙ sym same) has.so_far;
         }
 
-    -- It is the first without a meaning.
-    pub first_bad : (number : ℕ) → number ≡ old.number → IsBadLine raw
-        → IsPastBadLine all (drop_through 10 known) number
-    first_bad number is bad =
-        let next = first_line known some in (
-          record {
-            before = has.before;
-            line = next.0;
-            after = lines (drop_through 10 known);
-            parts = has.parts ∙ ap (λ ls. has.before ++ ls) next.1;
-            counted = is ∙ has.so_far.next;
-            bad = λ what h. bad what (same_meaning raw next.0 (sym (next.2 ∙ sym same)) what h);
-            first = has.so_far.good;
-          },
-          refl,
-        )
+    -- If it has no meaning, its report is one more.
+    pub gathered_past : (bad : BadLine) (new : Gathered A)
+        → ((before : List (List ℕ)) (line : List ℕ) → content line ≡ content raw
+        → AreGathered reports before old → IsReportOf bad (length before + 1) line
+        × AreGathered (reports ++ bad ∷ []) (before ++ line ∷ []) new)
+        → AreGatheredPast reports bad all (drop_through 10 known) new
+    gathered_past bad new adds =
+        let next = first_line known some in
+        let after = adds has.before next.0 (next.2 ∙ sym same) has.so_far in record {
+          before = has.before;
+          line = next.0;
+          parts = has.parts ∙ ap (λ ls. has.before ++ ls) next.1;
+          earlier = has.so_far.reported;
+          report = after.0;
+          so_far = after.1;
+        }

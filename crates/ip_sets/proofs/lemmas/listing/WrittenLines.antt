@@ -23,7 +23,7 @@ use Rattle.ip_sets.specs.Line.{IsLine, MeansV4, MeansV6}
 use Rattle.ip_sets.specs.List.{AddsAddressesOf, AreAddressesOf, HasAddress, IsGoodLine, IsListOf}
 use Rattle.ip_sets.proofs.lemmas.listing.FirstLine.{then_others}
 use Rattle.ip_sets.proofs.lemmas.listing.LineEnds.{content_without_return}
-use Rattle.ip_sets.proofs.lemmas.listing.Reading.{same_meaning}
+use Rattle.ip_sets.proofs.lemmas.listing.Reports.{same_meaning}
 use Rattle.ip_sets.proofs.lemmas.listing.Selected.{adds_v4, adds_v6, no_v4, no_v6}
 use Rattle.ip_sets.proofs.lemmas.spelling.Means.{v4_block_means, v4_means, v4_span_means, v6_block_means, v6_means, v6_span_means}
 use Rattle.ip_sets.proofs.lemmas.spelling.Written.{IsPlain, decimal_plain, v4_plain, v6_plain}

@@ -7,7 +7,7 @@ use Rattle.ip_sets.proofs.list.gathered.Gathered.add_buffered.Goals as goal
 
 -- The whole lines of the buffer were gathered, and consumed.
 pub returns-in-Ok-clause-gathered : goal.returns-in-Ok-clause-gathered
-returns-in-Ok-clause-gathered g c = λ all has.
+returns-in-Ok-clause-gathered g c = λ all reports has.
     let shown = c.in-Ok.bytes.now in
     let lines = c.add_lines-count in
     let more = drop (length shown) has.0 in
@@ -20,11 +20,11 @@ returns-in-Ok-clause-gathered g c = λ all has.
     lines.ensures.within in
     on_ok_weaker lines.result.1
     (λ gathered. (drop lines.result.0 shown ++ more, parts.1, gathered))
-    (lines.ensures.gathered all more
-    (subst (λ rest. AreGatheredBefore all rest c.args.self.now) (sym parts.0) has.2))
+    (lines.ensures.gathered all more reports
+    (subst (λ rest. AreGatheredBefore reports all rest c.args.self.now) (sym parts.0) has.2))
 
 pub returns-in-Ok-clause-bad_line : goal.returns-in-Ok-clause-bad_line
-returns-in-Ok-clause-bad_line g c = λ all number has is.
+returns-in-Ok-clause-bad_line g c = λ all reports bad has is.
     let shown = c.in-Ok.bytes.now in
     let lines = c.add_lines-count in
     let more = drop (length shown) has.0 in
@@ -37,6 +37,6 @@ returns-in-Ok-clause-bad_line g c = λ all number has is.
     lines.ensures.within in (
       drop lines.result.0 shown ++ more,
       parts.1,
-      lines.ensures.bad_line all more number
-          (subst (λ rest. AreGatheredBefore all rest c.args.self.now) (sym parts.0) has.2) is,
+      lines.ensures.bad_line all more reports bad
+          (subst (λ rest. AreGatheredBefore reports all rest c.args.self.now) (sym parts.0) has.2) is,
     )

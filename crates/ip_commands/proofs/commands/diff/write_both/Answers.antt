@@ -1,0 +1,12 @@
+use Rattle.ip_commands.specs.Files.{selected}
+use Rattle.ip_commands.proofs.lemmas.Differing.{both-differences}
+use Rattle.ip_commands.proofs.commands.diff.write_both.Goals as goal
+
+-- Both differences were written.
+pub returns : goal.returns
+returns g c =
+    let contents = g.W.Write.contents in
+    both-differences c.args.diff.form c.args.diff.families (selected c.args.old.now)
+    (selected c.args.new.now) (contents c.args.output.now) (contents c.write_difference.new.output)
+    (contents c.write_difference-2.new.output) c.write_difference-2.result
+    c.in_ok-write_difference.ensures c.write_difference-2.ensures

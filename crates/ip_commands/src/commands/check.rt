@@ -1,0 +1,84 @@
+//! The bad lines of files.
+
+ghost use Rattle.std.specs.Prelude.{◌≡◌, ℕ, ◌++◌, IfErr, IfOk, List, OnOk, map};
+ghost use Rattle.std.specs.Io.KnownBytes.{Appends};
+ghost use Rattle.ip_commands.specs.Answer.{AreReported, IsChecked, IsReported, checked_outcome};
+ghost use Rattle.ip_commands.specs.Files.{IsCheckFault, IsNotRead, KeepsUnlessWriting};
+
+use crate::commands::Outcome;
+use crate::commands::lists::not_read;
+use crate::fault::Fault;
+use crate::inputs::Inputs;
+use ip_sets::{ListFault, read_list_past_bad_lines};
+use std::alloc::Allocator;
+use std::io::Write;
+
+/// Writes a line for each bad line of some files.
+pub(crate) fn write_reports<'a, A: Allocator + Copy, I: Inputs, W: Write>(
+    alloc: A,
+    inputs: &I,
+    files: &'a [&'a str],
+    output: &mut W,
+) -> Result<Outcome, Fault<'a>>
+    ensures answer { IfOk result (λ outcome. (text : List ℕ)
+        × IsChecked (I.bytes inputs.now) (map (λ name. name.now) files.now) outcome text
+        × Appends (W.contents output.old) (W.contents output.new) text) }
+    ensures fault { IfErr result (IsCheckFault (map (λ name. name.now) files.now)) }
+    ensures keeps { IfErr result (λ fault.
+        KeepsUnlessWriting fault (W.contents output.old) (W.contents output.new)) }
+{
+    let told = reports(alloc, inputs, files)?;
+    output.write_all(&told)?;
+    Ok(checked(&told))
+}
+
+// Returns how a check with these reports ends.
+fn checked(told: &[u8]) -> Outcome
+    ensures { result ≡ checked_outcome told.now }
+{
+    if told.is_empty() {
+        return Outcome::Done;
+    }
+    Outcome::BadLines
+}
+
+// Returns a line for each bad line of some files.
+fn reports<'a, A: Allocator + Copy, I: Inputs>(
+    alloc: A,
+    inputs: &I,
+    files: &'a [&'a str],
+) -> Result<Vec<u8, A>, Fault<'a>>
+    ensures reports { IfOk result (λ told.
+        AreReported (I.bytes inputs.now) (map (λ name. name.now) files.now) told.items) }
+    ensures fault { IfErr result (IsCheckFault (map (λ name. name.now) files.now)) }
+{
+    let mut told = Vec::new(alloc);
+    for file in files {
+        add_reports(alloc, inputs, *file, &mut told)?;
+    }
+    Ok(told)
+}
+
+// Adds a line for each bad line of a file.
+fn add_reports<'a, A: Allocator + Copy, I: Inputs>(
+    alloc: A,
+    inputs: &I,
+    file: &'a str,
+    told: &mut Vec<u8, A>,
+) -> Result<(), Fault<'a>>
+    ensures reports { OnOk result ((text : List ℕ)
+        × IsReported (I.bytes inputs.now) file.now text
+        × (told.new.items ≡ told.old.items ++ text)) }
+    ensures fault { IfErr result (IsNotRead file.now) }
+{
+    let mut input = match inputs.open(file) {
+        Ok(input) => input,
+        Err(error) => return Err(not_read(file, error)),
+    };
+    match read_list_past_bad_lines(alloc, &mut input, file, told) {
+        Ok(_list) => Ok(()),
+        Err(ListFault::BadLine(_)) => unreachable!(),
+        Err(ListFault::NoMemory) => Err(Fault::NoMemory),
+        Err(ListFault::Io(error)) => Err(not_read(file, error)),
+    }
+}
