@@ -4,6 +4,7 @@ mod answers;
 mod ends;
 mod faults;
 mod known;
+mod laws;
 mod many_parts;
 mod process;
 mod reads;
