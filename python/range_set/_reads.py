@@ -53,6 +53,16 @@ def checked_pair(values: Tuple[Any, ...]) -> List[Any]:
     return [values] if values else []
 
 
+def plain_bytes(data: Any) -> bytes:
+    """Returns the bytes of an object that has some, such as a bytearray. Others raise TypeError."""
+    return data if type(data) is bytes else memoryview(data).tobytes()
+
+
+def bits_of(data: bytes, widths: Iterable[int]) -> Optional[int]:
+    """Returns the number of bits that the bytes of a set name, if it is one of these."""
+    return next((bits for bits in widths if data[5:6] == bytes([bits])), None)
+
+
 class Reads(Base[T, V, I]):
     """A set of values that have an order, kept as runs that never touch."""
 
@@ -225,7 +235,7 @@ class Reads(Base[T, V, I]):
             array('l', [0, 2, 9, 9])
         """
         element = self._ints()
-        return array_of(self._ends_bytes(False), element.bits, element.signed)
+        return array_of(self._ends_bytes(), element.bits, element.signed)
 
     def contains_array(self, values: Any) -> memoryview:
         """Returns for each value whether it is a member, as a buffer of booleans.
@@ -285,6 +295,13 @@ class Reads(Base[T, V, I]):
             raise ValueError(f"the text has a value too many: {error}") from None
         return made
 
+    # ---- Bytes. Each type of sets has from_bytes, with the options of its constructor.
+
+    @classmethod
+    def _of(cls: Type[Self], data: bytes, **options: Any) -> Self:
+        """Returns the set that has these bytes."""
+        return cls._new(cls._element_for((), **options))._of_bytes(data)
+
     def _repr_svg_(self) -> str:
         """Returns a drawing of the runs on a line, which a notebook shows."""
         return picture(self)
@@ -302,15 +319,12 @@ class Reads(Base[T, V, I]):
         return self.copy()
 
     def __reduce__(self) -> Tuple[Any, ...]:
-        kept = self._options(), self._ends_bytes(True)
-        return self._unpickled, kept, getattr(self, "__dict__", None)
+        return self._unpickled, (self._options(), self.to_bytes()), getattr(self, "__dict__", None)
 
     @classmethod
     def _unpickled(cls: Type[Self], options: Dict[str, Any], data: bytes) -> Self:
-        """Returns the set whose runs have these ranks as ends, which is what a pickle keeps."""
-        made = cls._new(cls._element_for((), **options))
-        made._take(made._of_ranks(data)[0])
-        return made
+        """Returns the set of the options and the bytes that a pickle keeps."""
+        return cls._of(data, **options)
 
     @classmethod
     def _restored(cls: Type[Self], bits: int, data: bytes) -> Self:

@@ -10,8 +10,8 @@ from typing import TYPE_CHECKING, Any, Dict, Generic, Iterable, MutableSet, Opti
 from . import _core
 from ._algebra import DIFFERENCE, INTERSECTION, SYMMETRIC_DIFFERENCE, UNION, Algebra
 from ._core import Run
-from ._elements import CHARACTERS, DAYS, FAMILIES, Address, Element, Ints, ints
-from ._reads import I, Reads, T, V
+from ._elements import CHARACTERS, DAYS, FAMILIES, WIDTHS, Address, Element, Ints, ints
+from ._reads import I, Reads, T, V, bits_of, plain_bytes
 
 # Sets with fewer members than this have the hash of a frozenset.
 MANY = 2**32
@@ -22,6 +22,8 @@ Frozen = TypeVar("Frozen", bound="Freezes[Any, Any, Any]")
 # Type checkers see sets, and the interpreter only sees their registration.
 if TYPE_CHECKING:
     from ipaddress import IPv4Network, IPv6Network
+
+    from _typeshed import ReadableBuffer as Buffer
 
     class ChangingBase(Algebra[T, V, I], _core.Changing[T, V], Generic[T, V, I]): ...
 
@@ -216,6 +218,25 @@ class RangeSet(IntOptions, Changes[int, Int, IntItem]):
         """
         return cls._parsed(text, bits=bits, signed=signed)
 
+    @classmethod
+    def from_bytes(cls: Type[Self], data: Buffer, *, signed: bool = True) -> Self:
+        """Returns the set that `to_bytes` wrote as these bytes, which are of any bytes-like object.
+
+        The bytes say how many bits the ints have, but not whether they may be below 0: pass the
+        `signed` of the set that was written. Raises ValueError with the position of the first wrong
+        byte and the reason, as docs/FORMAT.md lists them.
+
+            >>> data = RangeSet([range(3), 9], bits=32).to_bytes()
+            >>> RangeSet.from_bytes(data)
+            RangeSet([range(0, 3), range(9, 10)], bits=32)
+            >>> RangeSet.from_bytes(data[:-1])
+            Traceback (most recent call last):
+                ...
+            ValueError: these bytes are no set, by the one at position 14: CutShort: the bytes end before the last run does
+        """
+        kept = plain_bytes(data)
+        return cls._of(kept, bits=bits_of(kept, WIDTHS), signed=signed)
+
 
 class FrozenRangeSet(IntOptions, Freezes[int, Int, IntItem]):
     """A `RangeSet` that never changes, so it is hashable. `FrozenRangeSet(s)` freezes a set.
@@ -244,6 +265,12 @@ class FrozenRangeSet(IntOptions, Freezes[int, Int, IntItem]):
     ) -> Frozen:
         """Returns the set that a text lists, as `RangeSet.parse` does."""
         return cls._parsed(text, bits=bits, signed=signed)
+
+    @classmethod
+    def from_bytes(cls: Type[Frozen], data: Buffer, *, signed: bool = True) -> Frozen:
+        """Returns the set that has these bytes, as `RangeSet.from_bytes` does."""
+        kept = plain_bytes(data)
+        return cls._of(kept, bits=bits_of(kept, WIDTHS), signed=signed)
 
 
 # ---- Values of other types.
@@ -290,6 +317,20 @@ class ElementSet(ElementOptions[T, T, Item[T]], Changes[T, T, Item[T]]):
         """Returns the set that a text lists, if the element has a function that reads values."""
         return cls._parsed(text, element=element)
 
+    @classmethod
+    def from_bytes(cls: Type[Self], data: Buffer, *, element: Optional[Element[Any]] = None) -> Self:
+        """Returns the set that `to_bytes` wrote as these bytes, which are of any bytes-like object.
+
+        The bytes have the ranks of the members, and do not say of which values: pass the element of
+        the set that was written. Raises ValueError with the position of the first wrong byte and the
+        reason, as docs/FORMAT.md lists them.
+
+            >>> data = DateSet([(date(1, 1, 3), date(1, 1, 9))]).to_bytes()
+            >>> data.hex(" "), str(DateSet.from_bytes(data))
+            ('f5 52 53 42 01 20 01 02 06', '0001-01-03..=0001-01-09')
+        """
+        return cls._of(plain_bytes(data), element=element)
+
 
 class FrozenElementSet(ElementOptions[T, T, Item[T]], Freezes[T, T, Item[T]]):
     """An `ElementSet` that never changes, so it is hashable."""
@@ -305,6 +346,11 @@ class FrozenElementSet(ElementOptions[T, T, Item[T]], Freezes[T, T, Item[T]]):
     def parse(cls: Type[Frozen], text: str, *, element: Optional[Element[Any]] = None) -> Frozen:
         """Returns the set that a text lists, if the element has a function that reads values."""
         return cls._parsed(text, element=element)
+
+    @classmethod
+    def from_bytes(cls: Type[Frozen], data: Buffer, *, element: Optional[Element[Any]] = None) -> Frozen:
+        """Returns the set that has these bytes, as `ElementSet.from_bytes` does."""
+        return cls._of(plain_bytes(data), element=element)
 
 
 class DateSet(ElementSet[date]):
@@ -398,6 +444,11 @@ def version_of(values: Any) -> int:
     return getattr(first, "version", 4)
 
 
+def family_of(data: bytes) -> int:
+    """Returns the family of a set with these bytes, or 4 if they are no set."""
+    return 6 if bits_of(data, [128]) else 4
+
+
 def listed(values: Any) -> Any:
     """Returns values that may be read twice: a list of them if they are an iterator."""
     is_kept = isinstance(values, (Reads, list, tuple, Run, set, frozenset)) or hasattr(values, "network_address")
@@ -431,6 +482,20 @@ class AddressSet(AddressOptions, Changes[Any, Any, AddressItem]):
         """
         return cls._parsed(text, version=version)
 
+    @classmethod
+    def from_bytes(cls: Type[Self], data: Buffer, *, version: Optional[int] = None) -> Self:
+        """Returns the set that `to_bytes` wrote as these bytes, which are of any bytes-like object.
+
+        Ranks have 32 bits in family 4, and 128 in family 6. Raises ValueError with the position of
+        the first wrong byte and the reason, as docs/FORMAT.md lists them.
+
+            >>> data = AddressSet.parse("::1..=::5").to_bytes()
+            >>> data.hex(" "), str(AddressSet.from_bytes(data))
+            ('f5 52 53 42 01 80 01 01 04', '::1..=::5')
+        """
+        kept = plain_bytes(data)
+        return cls._of(kept, version=family_of(kept) if version is None else version)
+
 
 class FrozenAddressSet(AddressOptions, Freezes[Any, Any, AddressItem]):
     """An `AddressSet` that never changes, so it is hashable."""
@@ -445,6 +510,12 @@ class FrozenAddressSet(AddressOptions, Freezes[Any, Any, AddressItem]):
     def parse(cls: Type[Frozen], text: str, *, version: Optional[int] = None) -> Frozen:
         """Returns the set of the addresses, networks and ranges that text lists."""
         return cls._parsed(text, version=version)
+
+    @classmethod
+    def from_bytes(cls: Type[Frozen], data: Buffer, *, version: Optional[int] = None) -> Frozen:
+        """Returns the set that has these bytes, as `AddressSet.from_bytes` does."""
+        kept = plain_bytes(data)
+        return cls._of(kept, version=family_of(kept) if version is None else version)
 
 
 abc.MutableSet.register(Changes)

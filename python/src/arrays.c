@@ -168,15 +168,12 @@ static PyObject *room_for(count number, int size) {
     return PyBytes_FromStringAndSize(NULL, (Py_ssize_t)number.number * size);
 }
 
-PyObject *set_ends_bytes(PyObject *self, PyObject *arguments) {
+PyObject *set_ends_bytes(PyObject *self, PyObject *Py_UNUSED(nothing)) {
     set *it = (set *)self;
-    int as_ranks, size = it->of->calls->bits / 8;
-    if (!PyArg_ParseTuple(arguments, "p", &as_ranks)) {
-        return NULL;
-    }
+    int size = it->of->calls->bits / 8;
     PyObject *made = room_for((count){it->of->calls->run_count(&it->handle), false}, 2 * size);
     char *out = made ? PyBytes_AsString(made) : NULL;
-    wide least = as_ranks ? 0 : it->of->least, from = 0;
+    wide least = it->of->least, from = 0;
     span block[BLOCK];
     size_t stored = made ? BLOCK : 0;
     while (stored == BLOCK) {
@@ -204,23 +201,4 @@ PyObject *set_values_bytes(PyObject *self, PyObject *Py_UNUSED(nothing)) {
         has_more = it->of->calls->run_after(&it->handle, run.last, &run);
     }
     return made;
-}
-
-PyObject *set_of_ranks(PyObject *self, PyObject *data) {
-    set *it = (set *)self;
-    size_t size = (size_t)it->of->calls->bits / 8;
-    runs waiting = {.calls = it->of->calls};
-    bool is_done = PyBytes_Check(data) && (size_t)PyBytes_Size(data) % (2 * size) == 0, has_others;
-    size_t length = is_done ? (size_t)PyBytes_Size(data) : 0;
-    for (size_t at = 0; is_done && at < length; at += 2 * size) {
-        span run = {0, 0};
-        memcpy(&run.first, PyBytes_AsString(data) + at, size);
-        memcpy(&run.last, PyBytes_AsString(data) + at + size, size);
-        is_done = run.first <= run.last && run.last <= it->of->top && runs_add(&waiting, run);
-    }
-    has_others = false;
-    if (!is_done && !PyErr_Occurred()) {
-        PyErr_SetString(PyExc_ValueError, "the bytes are not those of the runs of a set");
-    }
-    return filled(it, &waiting, is_done, has_others);
 }

@@ -77,6 +77,8 @@ typedef struct calls {
     uint32_t (*complement)(handle *out, const handle *set);
     uint32_t (*clone)(handle *out, const handle *set);
     uint32_t (*from_runs)(handle *out, const void *runs, size_t number);
+    uint32_t (*to_bytes)(const handle *set, unsigned char *buffer, size_t capacity, size_t *length);
+    uint32_t (*from_bytes)(handle *out, const unsigned char *bytes, size_t length, size_t *position, uint32_t *reason);
     bool (*equal)(const handle *left, const handle *right);
     bool (*is_subset)(const handle *left, const handle *right);
     bool (*is_disjoint)(const handle *left, const handle *right);

@@ -37,9 +37,8 @@ PyObject *set_order(PyObject *self, PyObject *other);
 PyObject *set_filled(PyObject *self, PyObject *arguments);
 PyObject *set_filled_by(PyObject *self, PyObject *arguments);
 PyObject *set_has_numbers(PyObject *self, PyObject *arguments);
-PyObject *set_ends_bytes(PyObject *self, PyObject *arguments);
+PyObject *set_ends_bytes(PyObject *self, PyObject *nothing);
 PyObject *set_values_bytes(PyObject *self, PyObject *nothing);
-PyObject *set_of_ranks(PyObject *self, PyObject *data);
 
 #define ARRAY_METHODS                                                                                                          \
     {"_filled", set_filled, METH_VARARGS,                                                                                      \
@@ -49,11 +48,26 @@ PyObject *set_of_ranks(PyObject *self, PyObject *data);
          "_filled_by($self, data, size, is_signed, are_ends, is_adding, /)\n--\n\nThe same for the numbers of an array."},     \
         {"_has_numbers", set_has_numbers, METH_VARARGS,                                                                        \
          "_has_numbers($self, data, size, is_signed, /)\n--\n\nReturns a byte for each number: whether it is a member."},      \
-        {"_ends_bytes", set_ends_bytes, METH_VARARGS,                                                                          \
-         "_ends_bytes($self, as_ranks, /)\n--\n\nReturns both ends of each run as numbers of the set's width."},               \
-        {"_values_bytes", set_values_bytes, METH_NOARGS, "_values_bytes($self, /)\n--\n\nReturns the members as such numbers."}, \
+        {"_ends_bytes", set_ends_bytes, METH_NOARGS,                                                                           \
+         "_ends_bytes($self, /)\n--\n\nReturns both ends of each run as numbers of the set's width."},                        \
     {                                                                                                                          \
-        "_of_ranks", set_of_ranks, METH_O, "_of_ranks($self, data, /)\n--\n\nReturns the set whose runs have these ranks as ends." \
+        "_values_bytes", set_values_bytes, METH_NOARGS, "_values_bytes($self, /)\n--\n\nReturns the members as such numbers." \
+    }
+
+PyObject *set_to_bytes(PyObject *self, PyObject *nothing);
+PyObject *set_of_bytes(PyObject *self, PyObject *data);
+
+#define TO_BYTES_DOC                                                                                                           \
+    "to_bytes($self, /)\n--\n\n"                                                                                              \
+    "Returns the set as bytes, which `from_bytes` reads.\n\n"                                                                  \
+    "Equal sets of a type have equal bytes, on every machine. docs/FORMAT.md describes them. They have the\n"                  \
+    "ranks of the members, counted from the least value of the type, and the number of their bits: 32, 64\n"                   \
+    "or 128.\n\n"                                                                                                              \
+    ">>> RangeSet(range(-1, 301)).to_bytes().hex(' ')\n'f5 52 53 42 01 40 01 ff ff ff ff ff ff ff ff 7f ad 02'"
+
+#define BYTES_METHODS                                                                                                          \
+    {"to_bytes", set_to_bytes, METH_NOARGS, TO_BYTES_DOC}, {                                                                   \
+        "_of_bytes", set_of_bytes, METH_O, "_of_bytes($self, data, /)\n--\n\nReturns the set of this type that has these bytes." \
     }
 
 #define COUNT_DOC                                                                                                              \

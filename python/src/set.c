@@ -410,6 +410,7 @@ static PyMethodDef methods[] = {
     {"first_run_of", (PyCFunction)(void (*)(void))set_first_run_of, METH_VARARGS | METH_KEYWORDS, FIRST_RUN_OF_DOC},
     ALGEBRA_METHODS,
     ARRAY_METHODS,
+    BYTES_METHODS,
     SUBSCRIPT,
     {NULL, NULL, 0, NULL},
 };

@@ -143,6 +143,14 @@ static uint32_t OWN(from_runs)(handle *out, const void *runs, size_t number) {
     return RSB(from_runs)(SET(out), runs, number);
 }
 
+static uint32_t OWN(to_bytes)(const handle *set, unsigned char *buffer, size_t capacity, size_t *length) {
+    return RSB(to_bytes)(SET(set), buffer, capacity, length);
+}
+
+static uint32_t OWN(from_bytes)(handle *out, const unsigned char *bytes, size_t length, size_t *position, uint32_t *reason) {
+    return RSB(from_bytes)(SET(out), bytes, length, position, reason);
+}
+
 static uint32_t OWN(sets_add)(handles *list, const handle *set) {
     return RSB(sets_add)(SET(list), SET(set));
 }
@@ -193,6 +201,8 @@ static const calls OWN(calls) = {
     .complement = OWN(complement),
     .clone = OWN(clone),
     .from_runs = OWN(from_runs),
+    .to_bytes = OWN(to_bytes),
+    .from_bytes = OWN(from_bytes),
     .equal = OWN(equal),
     .is_subset = OWN(is_subset),
     .is_disjoint = OWN(is_disjoint),

@@ -35,6 +35,13 @@ from range_set import RangeSet
 kept = RangeSet(range(0, 100_000, 2))
 text = str(kept)
 resource.setrlimit(resource.RLIMIT_AS, ({limit}, {limit}))
+data = kept.to_bytes()
+announced = data[:6] + bytes([255] * 8 + [127, 0, 0])  # 2**63 - 1 runs, and one of them
+try:
+    RangeSet.from_bytes(announced)
+    assert False
+except ValueError as error:
+    assert "position 17: CutShort" in str(error), error
 copies = []
 try:
     while True:
@@ -46,6 +53,14 @@ copies.clear()
 assert "range set" in str(failure), failure
 assert more > 10, more
 assert str(kept) == text and kept.copy() == kept
+for call in (lambda: RangeSet.from_bytes(data), kept.to_bytes):
+    try:
+        while True:
+            copies.append(call())
+    except MemoryError:
+        assert len(copies) > 10
+        copies.clear()
+assert RangeSet.from_bytes(data) == kept and kept.to_bytes() == data
 try:
     (~RangeSet(bits=32)).to_array()
     assert False
@@ -101,7 +116,7 @@ def calls(kind):
         lambda it: it.update(other), lambda it: it.difference_update(other), lambda it: it.intersection_update(other),
         lambda it: it.symmetric_difference_update(other), lambda it: it.update(values), lambda it: kind.made(left),
         lambda it: it.union(other, other), lambda it: type(it).at_least(2, [it, other], **kind.options),
-        lambda it: it == values, lambda it: it <= set(values), lambda it: type(it)._unpickled(it._options(), it._ends_bytes(True)),
+        lambda it: it == values, lambda it: it <= set(values), lambda it: type(it)._unpickled(it._options(), it.to_bytes()),
     ):
         yield call, left
 

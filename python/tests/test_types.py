@@ -51,6 +51,11 @@ made.update(numbers, [1, (2, 3)], made)
 found: Optional[Run[int]] = made.next_run(5) or made.first_gap(3, 1) or made.prev_gap()
 text: str = str(RangeSet.parse("1, 5..=9", bits=32, signed=False))
 
+written: bytes = made.to_bytes()
+back: RangeSet = RangeSet.from_bytes(written, signed=False)
+frozen_back: FrozenRangeSet = FrozenRangeSet.from_bytes(memoryview(written))
+days_back: DateSet = DateSet.from_bytes(bytearray(written))
+
 days = DateSet([date(2026, 1, 1), (date(2026, 2, 1), date(2026, 2, 28))])
 day: Optional[date] = days.first()
 for run in days.runs():
@@ -81,6 +86,7 @@ DateSet([5])  # 3
 FrozenRangeSet().add(5)  # 4
 RangeSet(bits="64")  # 5
 x: int = DateSet([date.min])[0]  # 6
+RangeSet.from_bytes("x")  # 7
 """
 
 
