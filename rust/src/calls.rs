@@ -110,6 +110,9 @@ impl From<Thirds> for Count {
 pub const UNCHANGED: u32 = 0;
 pub const CHANGED: u32 = 1;
 
+/// What `from_bytes` returns for bytes that are those of no set.
+pub const BAD_BYTES: u32 = 5;
+
 /// The functions for sets whose ranks are of type `R`.
 pub type CallsOf<R> = Calls<<R as Number>::Value, <R as Number>::Count, <R as Number>::Place>;
 
@@ -218,4 +221,6 @@ calls! {
     fn is_subset(left: &Handle, right: &Handle) -> bool;
     fn is_disjoint(left: &Handle, right: &Handle) -> bool;
     fn runs_in(set: &Handle, first: V, last: V, runs: *mut Run<V>, count: usize) -> usize;
+    fn to_bytes(set: &Handle, buffer: *mut u8, capacity: usize, length: &mut usize) -> u32;
+    fn from_bytes(out: &mut Handle, bytes: *const u8, length: usize, position: &mut usize, reason: &mut u32) -> u32;
 }

@@ -33,7 +33,7 @@
 //! # If an allocation fails
 //!
 //! A call whose name begins with `try_` returns [`AllocError`] if an allocation fails, and
-//! `from_str` returns [`ParseError`]. Every other call that allocates panics, so that a program may
+//! `from_str` returns [`ParseError`], and `from_bytes` [`BytesError`]. Every other call that allocates panics, so that a program may
 //! catch the panic and go on. Either way, each set that was passed by reference is unchanged, except
 //! that `extend` may have added some values.
 //!
@@ -85,6 +85,7 @@
 
 mod algebra;
 mod build;
+mod bytes;
 mod calls;
 mod changes;
 mod count;
@@ -105,6 +106,7 @@ mod width;
 use core::fmt;
 use core::marker::PhantomData;
 
+pub use bytes::{BytesError, BytesReason};
 pub use count::{Count, TooGreat};
 pub use element::Element;
 pub use iterators::{Gaps, IntoIter, IntoRuns, Iter, IterIn, Runs, RunsIn};

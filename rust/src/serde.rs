@@ -1,27 +1,51 @@
-//! The traits of the crate `serde`: a set is the list of its runs as pairs.
+//! The traits of the crate `serde`: a set is the list of its runs as pairs, or its bytes in a format
+//! that is not for people.
 
 use core::fmt;
 use core::marker::PhantomData;
 
 use serde::de::{Error, SeqAccess, Visitor};
-use serde::{Deserialize, Deserializer, Serialize, Serializer};
+use serde::{ser, Deserialize, Deserializer, Serialize, Serializer};
 
 use crate::build::Joining;
 use crate::span::Span;
 use crate::{Element, RangeSet};
 
-/// Writes the runs as pairs of their first and last values, as in `[[1,5],[10,20]]`.
+/// Writes the runs as pairs of their first and last values, as in `[[1,5],[10,20]]`. A binary format
+/// gets the bytes that [`RangeSet::to_bytes`] returns.
 impl<T: Element + Serialize> Serialize for RangeSet<T> {
     fn serialize<S: Serializer>(&self, serializer: S) -> Result<S::Ok, S::Error> {
+        if !serializer.is_human_readable() {
+            let bytes = self.try_to_bytes().map_err(ser::Error::custom)?;
+            return serializer.serialize_bytes(&bytes);
+        }
         serializer.collect_seq(self.runs().map(|run| run.into_inner()))
     }
 }
 
 /// Reads pairs of first and last values, which may come in any order, overlap and touch. A pair
-/// whose last value is below its first is an error.
+/// whose last value is below its first is an error. From a binary format, reads the bytes as
+/// [`RangeSet::from_bytes`] does.
 impl<'de, T: Element + Deserialize<'de>> Deserialize<'de> for RangeSet<T> {
     fn deserialize<D: Deserializer<'de>>(deserializer: D) -> Result<Self, D::Error> {
+        if !deserializer.is_human_readable() {
+            return deserializer.deserialize_bytes(Bytes(PhantomData));
+        }
         deserializer.deserialize_seq(Pairs(PhantomData))
+    }
+}
+
+struct Bytes<T>(PhantomData<T>);
+
+impl<T: Element> Visitor<'_> for Bytes<T> {
+    type Value = RangeSet<T>;
+
+    fn expecting(&self, f: &mut fmt::Formatter<'_>) -> fmt::Result {
+        f.write_str("the bytes of a set")
+    }
+
+    fn visit_bytes<E: Error>(self, bytes: &[u8]) -> Result<RangeSet<T>, E> {
+        RangeSet::from_bytes(bytes).map_err(E::custom)
     }
 }
 

@@ -13,7 +13,7 @@ use std::panic;
 use std::ptr;
 use std::str::FromStr;
 
-use range_set::{AllocError, Element, ParseError, RangeSet};
+use range_set::{AllocError, BytesError, Element, ParseError, RangeSet};
 
 extern "C" {
     fn __libc_malloc(size: usize) -> *mut c_void;
@@ -239,11 +239,44 @@ fn a_failed_parse_returns_an_error() {
     parse::<u128>();
 }
 
+fn bytes<T: Value>() {
+    let set = ten_runs::<T>();
+    let bytes = set.to_bytes();
+    for failures in 0.. {
+        let (result, has_failed) = with_failures(failures, || set.try_to_bytes());
+        if !has_failed {
+            assert_eq!(result, Ok(bytes.clone()));
+            assert!(failures >= 3);
+            break;
+        }
+        assert_eq!(result, Err(AllocError), "allocation {failures}");
+    }
+    for failures in 0.. {
+        let (result, has_failed) = with_failures(failures, || RangeSet::from_bytes(&bytes));
+        if !has_failed {
+            assert_eq!(result, Ok(set));
+            assert!(failures > 0);
+            break;
+        }
+        let no_memory = Err(BytesError::NoMemory(AllocError));
+        assert_eq!(result, no_memory, "allocation {failures}");
+    }
+}
+
+#[test]
+fn failed_bytes_return_an_error() {
+    bytes::<u8>();
+    bytes::<u32>();
+    bytes::<i64>();
+    bytes::<u128>();
+}
+
 /// Makes every call, with failed allocations and without, and drops what it returns.
 fn make_and_drop<T: Value>() {
     change_each::<T>();
     build_each::<T>();
     parse::<T>();
+    bytes::<T>();
     let set = ten_runs::<T>();
     let (mut runs, mut members) = (set.clone().into_runs(), set.clone().into_iter());
     assert!(runs.next().is_some() && members.next_back().is_some());
