@@ -37,6 +37,8 @@ Version: {VERSION}
 Summary: Sets of ints, dates and addresses as sorted ranges, over a proved library
 License: Apache-2.0 OR MIT
 Requires-Python: >=3.8
+Provides-Extra: dask
+Requires-Dist: dask[distributed]; extra == "dask"
 """
 FLAGS = "-std=c11 -O2 -fPIC -fvisibility=hidden -shared -DPy_LIMITED_API=0x03080000".split()
 FLAGS += "-Wl,--exclude-libs,ALL -Wl,-z,relro,-z,now".split()

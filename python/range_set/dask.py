@@ -9,11 +9,15 @@ This module needs the package `dask`: `pip install range_set[dask]`.
 from __future__ import annotations
 
 from functools import reduce
-from typing import Any, Callable, Iterable, List, Sequence
-
-from dask.delayed import Delayed, delayed
+from typing import TYPE_CHECKING, Any, Callable, Iterable, List, Sequence
 
 from range_set import RangeSet
+
+if TYPE_CHECKING:  # The types of Dask name no results, and Dask may be absent.
+    Delayed = Any
+    delayed: Any
+else:
+    from dask.delayed import Delayed, delayed
 
 __all__ = ["at_least", "from_bag", "from_series", "intersection", "union"]
 

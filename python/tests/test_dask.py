@@ -2,32 +2,45 @@
 import os
 import signal
 import tempfile
-import time
 import unittest
+import warnings
 from pathlib import Path
 
 from range_set import RangeSet
 
-try:
-    import dask
-    import dask.bag
-    import dask.dataframe
-    import pandas
-    from distributed import Client, LocalCluster, get_worker
+# Dask warns of what its own packages do.
+QUIET = warnings.catch_warnings()
+with warnings.catch_warnings():
+    warnings.simplefilter("ignore")
+    try:
+        import dask
+        import dask.bag
+        import dask.dataframe
+        import pandas
+        from distributed import Client, LocalCluster
 
-    from range_set.dask import at_least, from_bag, from_series, intersection, union
-except ImportError:
-    dask = None
+        from range_set.dask import at_least, from_bag, from_series, intersection, union
+    except ImportError:
+        dask = None
 
 VALUES = [value * 7919 % 10007 for value in range(5000)]
 PARTS = [RangeSet([range(10 * i, 10 * i + 25), 1000 + i]) for i in range(20)]
+
+
+def setUpModule():
+    QUIET.__enter__()
+    warnings.simplefilter("ignore")
+
+
+def tearDownModule():
+    QUIET.__exit__(None, None, None)
 
 
 def lost_once(values, marker):
     """Returns the values, after the first process that was asked for them has ended."""
     if not os.path.exists(marker):
         Path(marker).touch()
-        os.kill(get_worker().nanny_pid if hasattr(get_worker(), "nanny_pid") else os.getpid(), signal.SIGKILL)
+        os.kill(os.getpid(), signal.SIGKILL)
     return values
 
 
