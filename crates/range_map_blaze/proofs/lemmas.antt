@@ -1,0 +1,10 @@
+pub mod Contained
+pub mod Cuts
+pub mod Entries
+pub mod Inside
+pub mod Joined
+pub mod Parted
+pub mod Placed
+pub mod Shortened
+pub mod Starts
+pub mod Values

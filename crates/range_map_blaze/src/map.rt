@@ -1,0 +1,91 @@
+//! The map type: its pieces in ascending order.
+//!
+//! Contracts see only the list of its pieces.
+
+ghost use Rattle.std.specs.Prelude.{◌≡◌, ◌↔◌, [], length, IsTrue};
+ghost use Rattle.std.specs.Option.{option_map};
+ghost use Rattle.range_map_blaze.specs.Map.{value_at, ArePieces};
+ghost use Rattle.range_map_blaze.specs.Storage.{pieces_in};
+
+mod insert;
+mod remove;
+
+use crate::cut::piece_at;
+use crate::map_value::MapValue;
+use crate::pieces::Pieces;
+use crate::range_values::RangeValues;
+use rsb_integer::Integer;
+use rsb_storage::run::known;
+use std::alloc::{Allocator, Global};
+use std::marker::Model;
+
+/// A map from ranges of integers to values. Contracts see it as the list of its pieces: the maximal
+/// intervals of ranks that have one value, each with that value. (`RangeMapBlaze` in
+/// range-set-blaze.)
+#[derive(Drop)]
+pub struct RangeMapBlaze<T: Integer, V: MapValue, A: Allocator = Global> {
+    pieces: Pieces<T, V, A>,
+}
+
+impl<T: Integer, V: MapValue, A: Allocator> Model for RangeMapBlaze<T, V, A> {
+    ghost use Rattle.std.specs.Prelude.{List};
+    ghost use Rattle.rsb_integer.specs.Runs.{Interval};
+    ghost use Rattle.range_map_blaze.specs.Map.{IsMapIn};
+
+    ghost Value = { List (Interval × V) };
+
+    ghost view = { λ m. m.pieces };
+
+    ghost invariant = { λ m. IsMapIn T.value_count m.pieces };
+}
+
+impl<T: Integer, V: MapValue, A: Allocator> RangeMapBlaze<T, V, A> {
+    /// Returns the empty map. Does not allocate. (`RangeMapBlaze::new`.)
+    pub fn new(alloc: A) -> Self
+        ensures { result ≡ [] }
+    {
+        RangeMapBlaze {
+            pieces: Pieces::new(alloc),
+        }
+    }
+
+    /// Returns the number of ranges, which are the maximal ones with one value.
+    /// (`RangeMapBlaze::ranges_len`.)
+    pub fn ranges_len(&self) -> usize
+        ensures length { result ≡ length self.now }
+        ensures pieces { ArePieces T.value_count (value_at self.now) self.now }
+    {
+        self.pieces.len()
+    }
+
+    /// Returns whether no key has a value. (`RangeMapBlaze::is_empty`.)
+    pub fn is_empty(&self) -> bool
+        ensures { IsTrue result ↔ (self.now ≡ []) }
+    {
+        self.pieces.is_empty()
+    }
+
+    /// Removes all values. Does not allocate. (`RangeMapBlaze::clear`.)
+    pub fn clear(&mut self)
+        ensures { self.new ≡ [] }
+    {
+        self.pieces.clear();
+    }
+
+    /// Returns the ranges in ascending order, each with a reference to its value, as a double-ended
+    /// iterator. Does not allocate. (`RangeMapBlaze::range_values`.)
+    pub fn range_values(&self) -> RangeValues<'_, T, V>
+        ensures { pieces_in T.rank V.seen result ≡ self.now }
+    {
+        self.pieces.range_values()
+    }
+
+    /// Returns the value of a key, or `None` if it has none. (`RangeMapBlaze::get`.)
+    pub fn get(&self, key: T) -> Option<&V>
+        ensures { option_map (λ value. V.seen value.now) result
+            ≡ value_at self.now (T.rank key) }
+    {
+        let piece = piece_at(&self.pieces, known(key))?;
+        Some(piece.value)
+    }
+}
