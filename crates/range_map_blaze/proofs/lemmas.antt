@@ -6,5 +6,6 @@ pub mod Joined
 pub mod Parted
 pub mod Placed
 pub mod Shortened
+pub mod Splits
 pub mod Starts
 pub mod Values

@@ -18,6 +18,11 @@ module _ {V : Type 0} where
   abbrev pub IsWithout : (ℕ → Option V) → Selection → (ℕ → Option V) → Type 0
   IsWithout old ranks new = (rank : ℕ) → new rank ≡ cond (ranks rank) None (old rank)
 
+  -- Whether the new function has at the selected ranks what the old one has, and no value
+  -- elsewhere.
+  abbrev pub IsWithin : (ℕ → Option V) → Selection → (ℕ → Option V) → Type 0
+  IsWithin old ranks new = (rank : ℕ) → new rank ≡ cond (ranks rank) (old rank) None
+
   -- ---- the maximal pieces of a function, in a type of n values
 
   module _ (n : ℕ) (value : ℕ → Option V) where

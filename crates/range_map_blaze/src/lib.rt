@@ -10,3 +10,4 @@ pub mod range_values;
 pub use map::RangeMapBlaze;
 pub use map_value::MapValue;
 pub use range_values::RangeValues;
+pub use rsb_integer::Integer;

@@ -3,19 +3,18 @@
 //! Contracts see only the list of its pieces.
 
 ghost use Rattle.std.specs.Prelude.{◌≡◌, ◌↔◌, [], length, IsTrue};
-ghost use Rattle.std.specs.Option.{option_map};
 ghost use Rattle.range_map_blaze.specs.Map.{value_at, ArePieces};
 ghost use Rattle.range_map_blaze.specs.Storage.{pieces_in};
 
 mod insert;
+mod look_up;
 mod remove;
+mod split;
 
-use crate::cut::piece_at;
 use crate::map_value::MapValue;
 use crate::pieces::Pieces;
 use crate::range_values::RangeValues;
 use rsb_integer::Integer;
-use rsb_storage::run::known;
 use std::alloc::{Allocator, Global};
 use std::marker::Model;
 
@@ -78,14 +77,5 @@ impl<T: Integer, V: MapValue, A: Allocator> RangeMapBlaze<T, V, A> {
         ensures { pieces_in T.rank V.seen result ≡ self.now }
     {
         self.pieces.range_values()
-    }
-
-    /// Returns the value of a key, or `None` if it has none. (`RangeMapBlaze::get`.)
-    pub fn get(&self, key: T) -> Option<&V>
-        ensures { option_map (λ value. V.seen value.now) result
-            ≡ value_at self.now (T.rank key) }
-    {
-        let piece = piece_at(&self.pieces, known(key))?;
-        Some(piece.value)
     }
 }

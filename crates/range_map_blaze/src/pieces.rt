@@ -1,6 +1,7 @@
 //! The pieces of a map, in a `BTreeMap`.
 
 ghost use Rattle.std.specs.Prelude.{◌≡◌, ◌↔◌, ◌+◌, ◌<◌, [], length, IfOk, IsTrue, MatchOption, OnErr, OnOk};
+ghost use Rattle.rsb_storage.specs.Starts.{EndsWith, StartsWith};
 ghost use Rattle.rsb_storage.specs.Storage.{run_of};
 ghost use Rattle.range_map_blaze.specs.Storage.{pieces_below, pieces_from, pieces_in, with_end_at, with_piece, without_start, IsLastBelow, NoneBelow, StartsAscendFrom};
 
@@ -68,6 +69,39 @@ impl<T: Integer, V: MapValue, A: Allocator> Pieces<T, V, A> {
         ensures { self.new ≡ [] }
     {
         self.map.clear();
+    }
+
+    /// Returns the first piece, or `None` if there is none.
+    pub fn first(&self) -> Option<Piece<'_, T, V>>
+        ensures { MatchOption result (self.now ≡ [])
+            (λ piece. StartsWith self.now (run_of T.rank piece.run, V.seen piece.value.now)) }
+    {
+        let (start, rest) = self.map.first_key_value()?;
+        let run = Run {
+            start: *start,
+            end: rest.0,
+        };
+        Some(Piece {
+            run,
+            value: &rest.1,
+        })
+    }
+
+    /// Returns the last piece, or `None` if there is none.
+    pub fn last(&self) -> Option<Piece<'_, T, V>>
+        ensures { MatchOption result (self.now ≡ [])
+            (λ piece. EndsWith self.now (run_of T.rank piece.run, V.seen piece.value.now)) }
+    {
+        let mut items = self.map.iter();
+        let (start, rest) = items.next_back()?;
+        let run = Run {
+            start: *start,
+            end: rest.0,
+        };
+        Some(Piece {
+            run,
+            value: &rest.1,
+        })
     }
 
     /// Returns the last piece that starts at or before a value, or `None` if there is none.

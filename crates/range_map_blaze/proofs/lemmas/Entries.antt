@@ -9,7 +9,9 @@ use Rattle.std.specs.declared.ops.Bound.TheVariants.{Included, Unbounded}
 use Rattle.std.specs.BTreeMap.{insert_entry, is_at}
 use Rattle.std.specs.declared.cmp.Ordering.{Ordering}
 use Rattle.std.proofs.lemmas.Bool.Decides.{nat_tests}
-use Rattle.std.proofs.lemmas.Option.{none-some, same_Some}
+use Rattle.std.proofs.Common.{slice_get}
+use Rattle.std.proofs.lemmas.Option.{get_or_from_slice_get, none-some, same_Some}
+use Rattle.rsb_storage.specs.Starts.{StartsWith}
 use Rattle.rsb_integer.specs.Runs.{Interval, from_to}
 use Rattle.rsb_storage.proofs.lemmas.runs.Maps.{order-cases}
 use Rattle.range_map_blaze.specs.Storage.{piece_of, pieces_below, pieces_from, pieces_in, pieces_of, range_values_of, pieces_starting, with_piece, with_end_at, without_start, StartsAscendFrom}
@@ -227,3 +229,14 @@ pub pieces_in-entries : {T V : Type 0} (rank : T → ℕ) (seen : V → V) (entr
 pieces_in-entries rank seen [] = refl
 pieces_in-entries rank seen (entry ∷ entries) =
     ap (λ pieces. piece_of rank seen entry ∷ pieces) (pieces_in-entries rank seen entries)
+
+-- The first entry is that of the first piece.
+pub first-piece : {T V : Type 0} (rank : T → ℕ) (seen : V → V) (entries : List (T × (T × V)))
+    (first : T × (T × V)) → slice_get entries 0 ≡ Some first
+    → StartsWith (pieces_of rank seen entries) (piece_of rank seen first)
+first-piece rank seen [] first found = absurd (cc)
+first-piece rank seen (entry ∷ entries) first found = record {
+  rest = pieces_of rank seen entries;
+  parts = ap (λ each. piece_of rank seen each ∷ pieces_of rank seen entries)
+      (get_or_from_slice_get (entry ∷ entries) 0 first first found);
+}

@@ -14,7 +14,7 @@ use Rattle.range_map_blaze.proofs.lemmas.Starts.{ascending-all, starting-all, st
 
 module _ {V : Type 0} where
   -- Nothing starts below rank 0.
-  below-zero : (pieces : List (Interval × V)) → pieces_below 0 pieces ≡ []
+  pub below-zero : (pieces : List (Interval × V)) → pieces_below 0 pieces ≡ []
   below-zero [] = refl
   below-zero (piece ∷ pieces) =
       starting-fails (λ start. nat_lt start 0) piece pieces (grind (arith, nat_tests)) ∙ below-zero pieces
