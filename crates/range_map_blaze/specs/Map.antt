@@ -90,3 +90,25 @@ module _ {V : Type 0} where
     pub in_type : joined < n
     pub same : (rank : ℕ) → end < rank → rank ≤ joined → value_at pieces rank ≡ Some value
     pub apart : value_at pieces (joined + 1) ≡ Some value → ⊥
+
+  -- ---- many pairs, of which later ones win
+
+  -- The first option if it is a value, and otherwise the second.
+  abbrev pub or_else : Option V → Option V → Option V
+  or_else (Some value) other = Some value
+  or_else None other = other
+
+  -- The value of the last piece of a list that contains the rank. The pieces may overlap.
+  abbrev pub last_value : List (Interval × V) → ℕ → Option V
+  last_value [] rank = None
+  last_value (piece ∷ pieces) rank =
+      or_else (last_value pieces rank) (cond (covers piece.0 rank) (Some piece.1) None)
+
+  -- Whether the new list has at each rank the value of the last piece that contains it, or what the
+  -- old one has if there is none.
+  pub record PutsAll (old added new : List (Interval × V)) : Type 0 where
+    pub puts : (rank : ℕ) → value_at new rank ≡ or_else (last_value added rank) (value_at old rank)
+
+  -- Whether a list has at each rank the value of the last piece that contains it.
+  pub record IsMapOf (added new : List (Interval × V)) : Type 0 where
+    pub has : (rank : ℕ) → value_at new rank ≡ last_value added rank

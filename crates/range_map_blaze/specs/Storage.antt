@@ -23,6 +23,10 @@ abbrev pub pieces_in : {T V : Type 0} → (T → ℕ) → (V → V) → List (Ra
     → List (Interval × V)
 pieces_in rank seen items = map (λ item. (interval_of rank item.0, seen item.1)) items
 
+-- The pieces that keys with values represent.
+abbrev pub keyed : {T V : Type 0} → (T → ℕ) → (V → V) → List (T × V) → List (Interval × V)
+keyed rank seen items = map (λ item. (from_to (rank item.0) (rank item.0), seen item.1)) items
+
 module _ {V : Type 0} where
   -- ---- parts of a list, by starts
 

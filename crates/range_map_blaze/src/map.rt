@@ -6,6 +6,7 @@ ghost use Rattle.std.specs.Prelude.{◌≡◌, ◌↔◌, [], length, IsTrue};
 ghost use Rattle.range_map_blaze.specs.Map.{value_at, ArePieces};
 ghost use Rattle.range_map_blaze.specs.Storage.{pieces_in};
 
+mod extend;
 mod insert;
 mod look_up;
 mod remove;
