@@ -1,6 +1,6 @@
-use Rattle.std.proofs.Common.{◌≡◌, ◌∙◌, ◌++◌, ◌∷◌, [], append_assoc, ap, subst, sym}
+use Rattle.std.proofs.Common.{◌∙◌, ◌++◌, ◌∷◌, [], append_assoc, ap, subst, sym}
 use Rattle.rsb_integer.specs.Rank.{interval_of}
-use Rattle.rsb_integer.specs.Runs.{Interval, covers}
+use Rattle.rsb_integer.specs.Runs.{covers}
 use Rattle.range_map_blaze.specs.Map.{value_at, IsPut}
 use Rattle.range_map_blaze.specs.Storage.{pieces_in}
 use Rattle.range_map_blaze.proofs.lemmas.Pairs.{puts-push}

@@ -1,6 +1,5 @@
 use Rattle.std.proofs.Common.{◌∷◌, [], subst, sym}
 use Rattle.std.proofs.lemmas.List.{map-append}
-use Rattle.rsb_integer.specs.Rank.{interval_of}
 use Rattle.rsb_integer.specs.Runs.{from_to}
 use Rattle.range_map_blaze.specs.Map.{PutsAll}
 use Rattle.range_map_blaze.specs.Storage.{keyed}

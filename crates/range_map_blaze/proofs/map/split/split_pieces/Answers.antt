@@ -1,21 +1,23 @@
-use Rattle.std.proofs.Common.{[], refl, subst, sym}
-use Rattle.rsb_storage.specs.Split.{from_on}
-use Rattle.range_map_blaze.specs.Map.{value_at, IsMapIn, IsWithin, IsWithout}
+use Rattle.std.proofs.Common.{refl}
 use Rattle.range_map_blaze.proofs.lemmas.Splits.{high-map, high-value, low-map, low-value, zero-high, zero-low, zero-within, zero-without}
 use Rattle.range_map_blaze.proofs.map.split.split_pieces.Goals as goal
 
 -- The key is the least.
 pub returns-in_default-clause-low : goal.returns-in_default-clause-low
 returns-in_default-clause-low g c =
-    rw (c.in_ok-high.ensures.low,
-    zero-low g.T.Integer.value_count c.args.pieces.now c.requires.canonical
-    (g.T.Integer.rank c.args.key) (c.in_default.ensures.none refl)) tt
+    rw (
+      c.in_ok-high.ensures.low,
+      zero-low g.T.Integer.value_count c.args.pieces.now c.requires.canonical
+          (g.T.Integer.rank c.args.key) (c.in_default.ensures.none refl),
+    ) tt
 
 pub returns-in_default-clause-high : goal.returns-in_default-clause-high
 returns-in_default-clause-high g c =
-    rw (c.in_ok-high.ensures.high,
-    zero-high g.T.Integer.value_count c.args.pieces.now c.requires.canonical
-    (g.T.Integer.rank c.args.key) (c.in_default.ensures.none refl)) c.requires.canonical
+    rw (
+      c.in_ok-high.ensures.high,
+      zero-high g.T.Integer.value_count c.args.pieces.now c.requires.canonical
+          (g.T.Integer.rank c.args.key) (c.in_default.ensures.none refl),
+    ) c.requires.canonical
 
 pub returns-in_default-clause-below : goal.returns-in_default-clause-below
 returns-in_default-clause-below g c =
