@@ -2,11 +2,13 @@
 #![tactic(auto)]
 
 mod cut;
+pub mod laws;
 pub mod map;
 pub mod map_value;
-pub mod pieces;
+mod pieces;
 pub mod range_values;
 
+pub use laws::{equal_values_equal_maps, ranges_are_maximal_pieces};
 pub use map::RangeMapBlaze;
 pub use map_value::MapValue;
 pub use range_values::RangeValues;

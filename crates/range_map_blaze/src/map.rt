@@ -1,9 +1,9 @@
 //! The map type: its pieces in ascending order.
 //!
-//! Contracts see only the list of its pieces.
+//! Contracts see only the list of its pieces (docs/DECISIONS.md, map-as-pieces).
 
 ghost use Rattle.std.specs.Prelude.{◌≡◌, ◌↔◌, [], length, IsTrue};
-ghost use Rattle.range_map_blaze.specs.Map.{value_at, ArePieces};
+ghost use Rattle.range_map_blaze.specs.Map.{value_at, ArePieces, IsMapIn};
 ghost use Rattle.range_map_blaze.specs.Storage.{pieces_in};
 
 mod extend;
@@ -54,6 +54,7 @@ impl<T: Integer, V: MapValue, A: Allocator> RangeMapBlaze<T, V, A> {
     pub fn ranges_len(&self) -> usize
         ensures length { result ≡ length self.now }
         ensures pieces { ArePieces T.value_count (value_at self.now) self.now }
+        ensures canonical { IsMapIn T.value_count self.now }
     {
         self.pieces.len()
     }

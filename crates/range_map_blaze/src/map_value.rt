@@ -10,7 +10,7 @@ ghost use Rattle.range_map_blaze.specs.ValueLaws.{bool-exact, pair-exact, refere
 /// value, such as where a reference points, the implementation also states what contracts see of a
 /// value. It is a value itself, the same one for all that are equal.
 pub trait MapValue: Clone + Eq {
-    // What contracts see of a value.
+    // What contracts see of a value (docs/DECISIONS.md, values-as-seen).
     ghost seen: { Self → Self } = { λ value. value };
 
     // `==` returns true exactly for values that are seen as the same.

@@ -4,7 +4,7 @@ ghost use Rattle.std.specs.Prelude.{◌≡◌};
 ghost use Rattle.std.specs.Option.{option_map};
 ghost use Rattle.range_map_blaze.specs.Map.{value_at};
 
-use range_map_blaze::RangeMapBlaze;
+use range_map_blaze::{MapValue, RangeMapBlaze};
 use std::alloc::{AllocError, Global};
 use std::io;
 use std::net::Ipv4Addr;
@@ -68,8 +68,8 @@ fn routing_table(
 }
 
 /// Returns where a packet to an address goes, or `None` if no route has the address.
-pub fn hop_of(table: &RangeMapBlaze<u32, u32>, address: u32) -> Option<&u32>
-    ensures { option_map (λ hop. hop.now) result ≡ value_at table.now address }
+pub fn hop_of<V: MapValue>(table: &RangeMapBlaze<u32, V>, address: u32) -> Option<&V>
+    ensures { option_map (λ hop. V.seen hop.now) result ≡ value_at table.now address }
 {
     table.get(address)
 }

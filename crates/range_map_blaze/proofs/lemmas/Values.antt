@@ -4,7 +4,7 @@ use Rattle.std.proofs.lemmas.Bool.{cases_lt}
 use Rattle.std.proofs.lemmas.Option.{none-some, same_Some}
 use Rattle.rsb_integer.specs.Runs.{Interval}
 use Rattle.rsb_integer.proofs.lemmas.Members.{covers-inside, covers-outside, same_interval}
-use Rattle.range_map_blaze.specs.Map.{value_at, IsMapFrom}
+use Rattle.range_map_blaze.specs.Map.{value_at, IsMapFrom, IsMapIn}
 
 module _ {V : Type 0} where
   -- ---- the value at a rank
@@ -151,3 +151,13 @@ module _ {V : Type 0} where
       ] in
       let tails = same-pieces n (piece.0.last + 1) (other.0.last + 1) pieces others left.4 right.4 rest in
       λ i. (head i, value i) ∷ tails i
+
+  -- Lists that agree within the type agree everywhere.
+  pub same-in_type : (n : ℕ) (pieces others : List (Interval × V)) → IsMapIn n pieces
+      → IsMapIn n others → ((rank : ℕ) → rank < n → value_at pieces rank ≡ value_at others rank)
+      → pieces ≡ others
+  same-in_type n pieces others left right same =
+      same-pieces n 0 0 pieces others left right (λ rank. elim (cases_lt rank n) [
+        | inl below ↦ same rank below
+        | inr past ↦ value-past n 0 pieces rank left past ∙ sym (value-past n 0 others rank right past)
+      ])

@@ -94,6 +94,7 @@ fn replace_run<T: Integer, V: MapValue, A: Allocator + Clone>(
         ++ (run_of T.rank run, V.seen value) ∷ after (T.rank run.end) pieces.old) }
     ensures err { OnErr result (pieces.new ≡ pieces.old) }
 {
+    // What may fail comes first (docs/DECISIONS.md, cut-then-put).
     let opened = open_after(pieces, run.end)?;
     if let Err(refused) = pieces.put(run, value) {
         close_after(pieces, opened);
