@@ -11,5 +11,5 @@ pub mod range_values;
 pub use laws::{equal_values_equal_maps, ranges_are_maximal_pieces};
 pub use map::RangeMapBlaze;
 pub use map_value::MapValue;
-pub use range_values::RangeValues;
+pub use range_values::{IntoRangeValues, RangeValues};
 pub use rsb_integer::Integer;

@@ -6,6 +6,7 @@ ghost use Rattle.std.specs.Prelude.{◌≡◌, ◌↔◌, [], length, IsTrue};
 ghost use Rattle.range_map_blaze.specs.Map.{value_at, ArePieces, IsMapIn};
 ghost use Rattle.range_map_blaze.specs.Storage.{pieces_in};
 
+mod collect;
 mod extend;
 mod insert;
 mod look_up;
@@ -14,7 +15,7 @@ mod split;
 
 use crate::map_value::MapValue;
 use crate::pieces::Pieces;
-use crate::range_values::RangeValues;
+use crate::range_values::{IntoRangeValues, RangeValues};
 use rsb_integer::Integer;
 use std::alloc::{Allocator, Global};
 use std::marker::Model;
@@ -79,5 +80,13 @@ impl<T: Integer, V: MapValue, A: Allocator> RangeMapBlaze<T, V, A> {
         ensures { pieces_in T.rank V.seen result ≡ self.now }
     {
         self.pieces.range_values()
+    }
+
+    /// Returns the ranges in ascending order, each with its value, as a double-ended iterator that
+    /// owns them. Does not allocate. (`RangeMapBlaze::into_range_values`.)
+    pub fn into_range_values(self) -> IntoRangeValues<T, V, A>
+        ensures { pieces_in T.rank V.seen result ≡ self }
+    {
+        self.pieces.into_range_values()
     }
 }

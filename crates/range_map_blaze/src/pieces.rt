@@ -6,7 +6,7 @@ ghost use Rattle.rsb_storage.specs.Storage.{run_of};
 ghost use Rattle.range_map_blaze.specs.Storage.{pieces_below, pieces_from, pieces_in, with_end_at, with_piece, without_start, IsLastBelow, NoneBelow, StartsAscendFrom};
 
 use crate::map_value::MapValue;
-use crate::range_values::RangeValues;
+use crate::range_values::{IntoRangeValues, RangeValues};
 use rsb_integer::Integer;
 use rsb_storage::run::Run;
 use std::alloc::{AllocError, Allocator};
@@ -130,6 +130,16 @@ impl<T: Integer, V: MapValue, A: Allocator> Pieces<T, V, A> {
     {
         RangeValues {
             entries: self.map.iter(),
+        }
+    }
+
+    /// Returns the pieces in ascending order, as ranges with values, with an iterator that owns them.
+    /// Does not allocate.
+    pub fn into_range_values(self) -> IntoRangeValues<T, V, A>
+        ensures { pieces_in T.rank V.seen result ≡ self }
+    {
+        IntoRangeValues {
+            entries: self.map.into_iter(),
         }
     }
 

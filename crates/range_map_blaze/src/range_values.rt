@@ -62,3 +62,57 @@ impl<'a, T: Integer, V> ExactSizeIterator for RangeValues<'a, T, V> {
         self.entries.len()
     }
 }
+
+/// A double-ended iterator over the ranges of a map, in ascending order, each with its value, which
+/// owns them. Contracts see it as the list of the ranges still to come, each with its value.
+/// (`IntoRangeValuesIter` in range-set-blaze.)
+#[derive(Drop)]
+pub struct IntoRangeValues<T: Integer, V: Drop, A: Allocator> {
+    pub(crate) entries: IntoIter<T, (T, V), A>,
+}
+
+impl<T: Integer, V: Drop, A: Allocator> Model for IntoRangeValues<T, V, A> {
+    ghost use Rattle.std.specs.Prelude.{List};
+    ghost use Rattle.std.specs.declared.ops.RangeInclusive.{RangeInclusive};
+    ghost use Rattle.range_map_blaze.specs.Storage.{range_values_of};
+
+    ghost Value = { List (RangeInclusive T × V) };
+
+    ghost view = { λ s. range_values_of s.entries };
+}
+
+impl<T: Integer, V: Drop, A: Allocator> Iterator for IntoRangeValues<T, V, A> {
+    type Item = (RangeInclusive<T>, V);
+
+    ghost next_gives = { TakesFirst (λ item. item) };
+
+    ghost remaining = { λ s. at_most (length s) };
+
+    fn next(&mut self) -> Option<(RangeInclusive<T>, V)> {
+        let (start, rest) = self.entries.next()?;
+        let (end, value) = rest;
+        Some((start..=end, value))
+    }
+
+    fn size_hint(&self) -> (usize, Option<usize>) {
+        self.entries.size_hint()
+    }
+}
+
+impl<T: Integer, V: Drop, A: Allocator> FusedIterator for IntoRangeValues<T, V, A> {}
+
+impl<T: Integer, V: Drop, A: Allocator> DoubleEndedIterator for IntoRangeValues<T, V, A> {
+    ghost next_back_gives = { TakesLast (λ item. item) };
+
+    fn next_back(&mut self) -> Option<(RangeInclusive<T>, V)> {
+        let (start, rest) = self.entries.next_back()?;
+        let (end, value) = rest;
+        Some((start..=end, value))
+    }
+}
+
+impl<T: Integer, V: Drop, A: Allocator> ExactSizeIterator for IntoRangeValues<T, V, A> {
+    fn len(&self) -> usize {
+        self.entries.len()
+    }
+}

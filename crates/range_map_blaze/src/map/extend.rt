@@ -4,7 +4,7 @@ ghost use Rattle.std.specs.Prelude.{◌≡◌, [], IfOk, OnErr, OnOk};
 ghost use Rattle.std.specs.Iterator.{ExtendsWithItems};
 ghost use Rattle.rsb_integer.specs.Rank.{interval_of};
 ghost use Rattle.rsb_integer.specs.Runs.{covers, from_to};
-ghost use Rattle.rsb_streams.specs.Items.{GaveRun, IsEnding};
+ghost use Rattle.rsb_streams.specs.Items.{GaveAll, GaveRun, IsEnding};
 ghost use Rattle.range_map_blaze.specs.Map.{value_at, IsMapOf, IsPut, PutsAll};
 ghost use Rattle.range_map_blaze.specs.Storage.{keyed, pieces_in};
 
@@ -93,6 +93,8 @@ impl<T: Integer, V: MapValue, A: Allocator + Clone> RangeMapBlaze<T, V, A> {
     ) -> Result<Self, AllocError>
         requires ready { IsEnding J.into_iter_gives J.IntoIter.can_next J.IntoIter.remaining
             pairs }
+        ensures values { IfOk result (λ map. GaveAll J.into_iter_gives J.IntoIter.next_gives pairs
+            (λ items. IsMapOf (pieces_in T.rank V.seen items) map)) }
         ensures runs { IfOk result (λ map. GaveRun J.into_iter_gives J.IntoIter.next_gives pairs
             (λ items. IsMapOf (pieces_in T.rank V.seen items) map)) }
     {
@@ -109,6 +111,8 @@ impl<T: Integer, V: MapValue, A: Allocator + Clone> RangeMapBlaze<T, V, A> {
     ) -> Result<Self, AllocError>
         requires ready { IsEnding J.into_iter_gives J.IntoIter.can_next J.IntoIter.remaining
             pairs }
+        ensures values { IfOk result (λ map. GaveAll J.into_iter_gives J.IntoIter.next_gives pairs
+            (λ items. IsMapOf (keyed T.rank V.seen items) map)) }
         ensures runs { IfOk result (λ map. GaveRun J.into_iter_gives J.IntoIter.next_gives pairs
             (λ items. IsMapOf (keyed T.rank V.seen items) map)) }
     {
