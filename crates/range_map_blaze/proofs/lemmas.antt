@@ -3,6 +3,7 @@ pub mod Cuts
 pub mod Entries
 pub mod Inside
 pub mod Joined
+pub mod Keys
 pub mod Pairs
 pub mod Parted
 pub mod Placed

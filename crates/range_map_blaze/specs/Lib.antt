@@ -1,5 +1,6 @@
 -- The definitions that the contracts of maps use, and those that they cite from the crates below, so
 -- that a user's crate has to name no other crate.
+pub mod KeyRanges
 pub mod Map
 pub mod Parts
 pub mod Storage

@@ -1,6 +1,6 @@
 -- Maps from ranks to values, and the lists of pieces that represent them. A piece is an interval of
 -- ranks and the value that all of them have.
-use Rattle.std.specs.Prelude.{◌≡◌, ℕ, cond, ◌+◌, ◌-◌, ◌<◌, ◌≤◌, List, [], ◌∷◌, All, AllPairs, Contains, IsTrue, Option, Some, None}
+use Rattle.std.specs.Prelude.{map, ◌≡◌, ℕ, cond, ◌+◌, ◌-◌, ◌<◌, ◌≤◌, List, [], ◌∷◌, All, AllPairs, Contains, IsTrue, Option, Some, None}
 use Rattle.std.specs.Option.{is_some}
 use Rattle.rsb_integer.specs.Runs.{Interval, covers}
 use Rattle.rsb_integer.specs.Selection.{Selection}
@@ -56,6 +56,10 @@ module _ {V : Type 0} where
   -- The ranks that have a value.
   abbrev pub keys : List (Interval × V) → Selection
   keys pieces rank = is_some (value_at pieces rank)
+
+  -- The intervals of the pieces. Those of pieces that touch, with different values, touch too.
+  abbrev pub runs_of_keys : List (Interval × V) → List Interval
+  runs_of_keys pieces = map (λ piece. piece.0) pieces
 
   -- Whether the first piece of the list, if it starts right past `piece`, has another value.
   abbrev pub DiffersFromNext : Interval × V → List (Interval × V) → Type 0

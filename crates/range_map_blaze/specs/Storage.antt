@@ -18,6 +18,10 @@ pieces_of rank seen entries = map (piece_of rank seen) entries
 abbrev pub range_values_of : {T V : Type 0} → List (T × (T × V)) → List (RangeInclusive T × V)
 range_values_of entries = map (λ entry. (range_of (entry.0, entry.1.0), entry.1.1)) entries
 
+-- The ranges of entries.
+abbrev pub key_ranges_of : {T V : Type 0} → List (T × (T × V)) → List (RangeInclusive T)
+key_ranges_of entries = map (λ entry. range_of (entry.0, entry.1.0)) entries
+
 -- The pieces that ranges with values represent.
 abbrev pub pieces_in : {T V : Type 0} → (T → ℕ) → (V → V) → List (RangeInclusive T × V)
     → List (Interval × V)

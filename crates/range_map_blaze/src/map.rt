@@ -2,8 +2,10 @@
 //!
 //! Contracts see only the list of its pieces (docs/DECISIONS.md, map-as-pieces).
 
-ghost use Rattle.std.specs.Prelude.{◌≡◌, ◌↔◌, [], length, IsTrue};
-ghost use Rattle.range_map_blaze.specs.Map.{value_at, ArePieces, IsMapIn};
+ghost use Rattle.std.specs.Prelude.{◌≡◌, ◌↔◌, ℕ, [], length, IsTrue};
+ghost use Rattle.rsb_integer.specs.Runs.{members};
+ghost use Rattle.rsb_streams.specs.Stream.{◌⊆◌, joined_runs, just};
+ghost use Rattle.range_map_blaze.specs.Map.{keys, runs_of_keys, value_at, ArePieces, IsMapIn};
 ghost use Rattle.range_map_blaze.specs.Storage.{pieces_in};
 
 mod collect;
@@ -13,10 +15,12 @@ mod look_up;
 mod remove;
 mod split;
 
+use crate::key_ranges::KeyRanges;
 use crate::map_value::MapValue;
 use crate::pieces::Pieces;
 use crate::range_values::{IntoRangeValues, RangeValues};
 use rsb_integer::Integer;
+use rsb_streams::{Draw, SortedTouching, UnionIter};
 use std::alloc::{Allocator, Global};
 use std::marker::Model;
 
@@ -88,5 +92,16 @@ impl<T: Integer, V: MapValue, A: Allocator> RangeMapBlaze<T, V, A> {
         ensures { pieces_in T.rank V.seen result ≡ self }
     {
         self.pieces.into_range_values()
+    }
+
+    /// Returns the keys in ascending order, as a stream of ranges: those of the map, joined if they
+    /// touch. Does not allocate. (`RangeMapBlaze::ranges`.)
+    pub fn ranges<'a>(&'a self) -> UnionIter<T, KeyRanges<'a, T, V>>
+        ensures ready { ⟦<UnionIter<T, KeyRanges<'a, T, V>> as Draw<T>>⟧.can_draw result }
+        ensures gives { ⟦<UnionIter<T, KeyRanges<'a, T, V>> as Draw<T>>⟧.may_give result
+            ⊆ joined_runs T.value_count (just (runs_of_keys self.now)) }
+        ensures keys { (rank : ℕ) → members (runs_of_keys self.now) rank ≡ keys self.now rank }
+    {
+        self.pieces.key_ranges().joined()
     }
 }

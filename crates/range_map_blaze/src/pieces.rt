@@ -1,10 +1,13 @@
 //! The pieces of a map, in a `BTreeMap`.
 
 ghost use Rattle.std.specs.Prelude.{◌≡◌, ◌↔◌, ◌+◌, ◌<◌, [], length, IfOk, IsTrue, MatchOption, OnErr, OnOk};
+ghost use Rattle.rsb_integer.specs.Rank.{intervals_of};
 ghost use Rattle.rsb_storage.specs.Starts.{EndsWith, StartsWith};
 ghost use Rattle.rsb_storage.specs.Storage.{run_of};
+ghost use Rattle.range_map_blaze.specs.Map.{runs_of_keys};
 ghost use Rattle.range_map_blaze.specs.Storage.{pieces_below, pieces_from, pieces_in, with_end_at, with_piece, without_start, IsLastBelow, NoneBelow, StartsAscendFrom};
 
+use crate::key_ranges::KeyRanges;
 use crate::map_value::MapValue;
 use crate::range_values::{IntoRangeValues, RangeValues};
 use rsb_integer::Integer;
@@ -140,6 +143,15 @@ impl<T: Integer, V: MapValue, A: Allocator> Pieces<T, V, A> {
     {
         IntoRangeValues {
             entries: self.map.into_iter(),
+        }
+    }
+
+    /// Returns the ranges of the pieces in ascending order, without values.
+    pub fn key_ranges(&self) -> KeyRanges<'_, T, V>
+        ensures { intervals_of T.rank result ≡ runs_of_keys self.now }
+    {
+        KeyRanges {
+            entries: self.map.iter(),
         }
     }
 
