@@ -8,6 +8,10 @@ use Rattle.rsb_integer.specs.Selection.{Selection}
 module _ {V : Type 0} where
   -- ---- functions from ranks to values
 
+  -- The function that has no value.
+  abbrev pub none_at : ℕ → Option V
+  none_at rank = None
+
   -- Whether the new function has this value at the selected ranks, and elsewhere what the old one
   -- has.
   abbrev pub IsPut : (ℕ → Option V) → Selection → V → (ℕ → Option V) → Type 0

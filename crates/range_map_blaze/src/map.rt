@@ -14,6 +14,7 @@ mod insert;
 mod look_up;
 mod remove;
 mod split;
+mod with_sets;
 
 use crate::key_ranges::KeyRanges;
 use crate::map_value::MapValue;
@@ -100,6 +101,7 @@ impl<T: Integer, V: MapValue, A: Allocator> RangeMapBlaze<T, V, A> {
         ensures ready { ⟦<UnionIter<T, KeyRanges<'a, T, V>> as Draw<T>>⟧.can_draw result }
         ensures gives { ⟦<UnionIter<T, KeyRanges<'a, T, V>> as Draw<T>>⟧.may_give result
             ⊆ joined_runs T.value_count (just (runs_of_keys self.now)) }
+        ensures canonical { IsMapIn T.value_count self.now }
         ensures keys { (rank : ℕ) → members (runs_of_keys self.now) rank ≡ keys self.now rank }
     {
         self.pieces.key_ranges().joined()

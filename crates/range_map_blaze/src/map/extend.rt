@@ -61,7 +61,7 @@ impl<T: Integer, V: MapValue, A: Allocator + Clone> RangeMapBlaze<T, V, A> {
     }
 
     // Gives the keys of a range a value. If allocation fails, the map is unchanged.
-    fn put_pair(&mut self, pair: (RangeInclusive<T>, V)) -> Result<(), AllocError>
+    pub(crate) fn put_pair(&mut self, pair: (RangeInclusive<T>, V)) -> Result<(), AllocError>
         ensures put { OnOk result (IsPut (value_at self.old) (covers (interval_of T.rank pair.0))
             (V.seen pair.1) (value_at self.new)) }
         ensures err { OnErr result (self.new ≡ self.old) }

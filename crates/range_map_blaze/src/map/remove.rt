@@ -2,6 +2,7 @@
 
 ghost use Rattle.std.specs.Prelude.{◌≡◌, ◌+◌, ◌<◌, ◌≤◌, ◌++◌, [], length, Contains, IfOk, IfSome, IsNone, OnErr, OnOk};
 ghost use Rattle.std.specs.Option.{option_map};
+ghost use Rattle.rsb_integer.specs.Rank.{interval_of};
 ghost use Rattle.rsb_integer.specs.Runs.{covers};
 ghost use Rattle.rsb_storage.specs.Set.{only, ranks_in};
 ghost use Rattle.rsb_storage.specs.Storage.{run_of};
@@ -14,9 +15,9 @@ use crate::map_value::MapValue;
 use crate::pieces::Pieces;
 use rsb_integer::Integer;
 use rsb_storage::bounds::run_between;
-use rsb_storage::run::{Run, known};
+use rsb_storage::run::{Run, known, run_of_range};
 use std::alloc::{AllocError, Allocator};
-use std::ops::RangeBounds;
+use std::ops::{RangeBounds, RangeInclusive};
 
 impl<T: Integer, V: MapValue, A: Allocator + Clone> RangeMapBlaze<T, V, A> {
     /// Removes the values of the keys between two bounds. The map gains at most one range. If
@@ -50,6 +51,18 @@ impl<T: Integer, V: MapValue, A: Allocator + Clone> RangeMapBlaze<T, V, A> {
         let found = self.cloned(key)?;
         remove_run(&mut self.pieces, Run::only(known(key)))?;
         Ok(found)
+    }
+
+    /// Removes the values of the keys of a range. If allocation fails, the map is unchanged.
+    pub(crate) fn remove_range(&mut self, range: RangeInclusive<T>) -> Result<(), AllocError>
+        ensures values { OnOk result (IsWithout (value_at self.old)
+            (covers (interval_of T.rank range)) (value_at self.new)) }
+        ensures err { OnErr result (self.new ≡ self.old) }
+    {
+        let Some(run) = run_of_range(&range) else {
+            return Ok(());
+        };
+        remove_run(&mut self.pieces, run)
     }
 
     /// Returns a clone of the value of a key, or `None` if the key has none.
