@@ -8,7 +8,13 @@ use std::test::*;
 
 /// Pairs that overlap, the last of which win.
 fn overlapping(alloc: Global) -> Result<RangeMapBlaze<u8, u8>, AllocError> {
-    let pairs = vec![in alloc; (0..=9u8, 1u8), (5..=14, 2), (7..=7, 1), (20..=29, 3), (25..=24, 9)]?;
+    let pairs = vec![in alloc;
+        (0..=9u8, 1u8),
+        (5..=14, 2),
+        (7..=7, 1),
+        (20..=29, 3),
+        (25..=24, 9),
+    ]?;
     RangeMapBlaze::from_iter(alloc, pairs)
 }
 
@@ -30,10 +36,7 @@ fn appended_wins(alloc: Global) -> Result<bool, AllocError> {
     let mut other = RangeMapBlaze::new(alloc);
     other.extend(vec![in alloc; (3..=9u8, 4u8), (30..=31, 3)]?)?;
     map.append(&mut other)?;
-    Ok(
-        has_rows(&map, &[(0, 2, 1), (3, 9, 4), (10, 14, 2), (20, 31, 3)])
-            && other.is_empty(),
-    )
+    Ok(has_rows(&map, &[(0, 2, 1), (3, 9, 4), (10, 14, 2), (20, 31, 3)]) && other.is_empty())
 }
 
 /// Whether the keys of a map are a set, and a set gives the keys of a map.
@@ -49,25 +52,34 @@ fn sets_are_keys(alloc: Global) -> Result<bool, AllocError> {
     let is_removed = has_rows(&map, &[(0, 3, 1), (10, 10, 2), (23, 29, 3)]);
     map.put_set(&some, &3)?;
     Ok(
-        keys == wanted && has_rows(&made, &[(0, 14, 7), (20, 29, 7)]) && is_removed
+        keys == wanted
+            && has_rows(&made, &[(0, 14, 7), (20, 29, 7)])
+            && is_removed
             && has_rows(&map, &[(0, 3, 1), (4, 9, 3), (10, 10, 2), (11, 29, 3)]),
     )
 }
 
 /// Whether look-ups find the ranges and the ends of the map.
 fn is_looked_up(map: &RangeMapBlaze<u8, u8>) -> bool {
-    map.range_at(6) == Some((5..=6, &2)) && map.range_at(15).is_none()
-        && map.get_key_value(20) == Some((20, &3)) && map.contains_key(7) && !map.contains_key(15)
-        && map.first_key_value() == Some((0, &1)) && map.last_key_value() == Some((29, &3))
+    map.range_at(6) == Some((5..=6, &2))
+        && map.range_at(15).is_none()
+        && map.get_key_value(20) == Some((20, &3))
+        && map.contains_key(7)
+        && !map.contains_key(15)
+        && map.first_key_value() == Some((0, &1))
+        && map.last_key_value() == Some((29, &3))
 }
 
 /// Whether the ranges come from both ends, by reference and by value.
 fn comes_from_both_ends(map: RangeMapBlaze<u8, u8>) -> bool {
     let mut lent = map.range_values();
-    let is_lent = lent.next() == Some((0..=4, &1)) && lent.next_back() == Some((20..=29, &3))
+    let is_lent = lent.next() == Some((0..=4, &1))
+        && lent.next_back() == Some((20..=29, &3))
         && lent.len() == 3;
     let mut owned = map.into_range_values();
-    is_lent && owned.next() == Some((0..=4, 1)) && owned.next_back() == Some((20..=29, 3))
+    is_lent
+        && owned.next() == Some((0..=4, 1))
+        && owned.next_back() == Some((20..=29, 3))
         && owned.len() == 3
 }
 

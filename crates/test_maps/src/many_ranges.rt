@@ -26,7 +26,16 @@ fn changes_count(map: &mut RangeMapBlaze<u32, u32>) -> Result<bool, AllocError> 
     let high = map.split_off(150_000)?;
     let is_split = map.ranges_len() == 40_001 && high.ranges_len() == 20_000;
     map.ranges_insert(0..=u32::MAX, 5)?;
-    Ok(is_filled && is_new && is_old && first && last && is_removed && is_split && map.ranges_len() == 1)
+    Ok(
+        is_filled
+            && is_new
+            && is_old
+            && first
+            && last
+            && is_removed
+            && is_split
+            && map.ranges_len() == 1,
+    )
 }
 
 #[test]

@@ -39,7 +39,9 @@ fn is_unchanged(map: &HeapMap<'_>, ranges: u8) -> bool {
     for number in 0..ranges {
         let first = number.saturating_mul(2);
         let value = number % 2 + 1;
-        if map.get(first).copied() != Some(value) || map.get(first.saturating_add(1)).copied() != Some(value) {
+        if map.get(first).copied() != Some(value)
+            || map.get(first.saturating_add(1)).copied() != Some(value)
+        {
             return false;
         }
     }

@@ -19,15 +19,28 @@ static ROWS: [(Change, &[Row]); 18] = [
     ),
     (
         Change::Insert(16, 1),
-        &[(10, 14, 1), (15, 15, 3), (16, 16, 1), (17, 17, 3), (18, 29, 1), (30, 39, 2)],
+        &[
+            (10, 14, 1),
+            (15, 15, 3),
+            (16, 16, 1),
+            (17, 17, 3),
+            (18, 29, 1),
+            (30, 39, 2),
+        ],
+    ),
+    (Change::RangesInsert(15, 17, 1), &[(10, 29, 1), (30, 39, 2)]),
+    (
+        Change::RangesInsert(25, 34, 3),
+        &[(10, 24, 1), (25, 34, 3), (35, 39, 2)],
     ),
     (
-        Change::RangesInsert(15, 17, 1),
-        &[(10, 29, 1), (30, 39, 2)],
+        Change::Remove(12),
+        &[(10, 11, 1), (13, 24, 1), (25, 34, 3), (35, 39, 2)],
     ),
-    (Change::RangesInsert(25, 34, 3), &[(10, 24, 1), (25, 34, 3), (35, 39, 2)]),
-    (Change::Remove(12), &[(10, 11, 1), (13, 24, 1), (25, 34, 3), (35, 39, 2)]),
-    (Change::Insert(12, 1), &[(10, 24, 1), (25, 34, 3), (35, 39, 2)]),
+    (
+        Change::Insert(12, 1),
+        &[(10, 24, 1), (25, 34, 3), (35, 39, 2)],
+    ),
     (Change::RangesRemove(20, 36), &[(10, 19, 1), (37, 39, 2)]),
     (Change::RangesRemove(0, 9), &[(10, 19, 1), (37, 39, 2)]),
     (Change::PopFirst, &[(11, 19, 1), (37, 39, 2)]),
@@ -44,8 +57,8 @@ pub(crate) fn has_rows<A: Allocator>(map: &RangeMapBlaze<u8, u8, A>, rows: &[Row
     let mut left = rows.iter();
     for (range, value) in map.range_values() {
         match left.next() {
-            Some((first, last, wanted)) if *range.start() == *first
-                && *range.end() == *last && *value == *wanted => {}
+            Some((first, last, wanted))
+                if *range.start() == *first && *range.end() == *last && *value == *wanted => {}
             _ => return false,
         }
     }
