@@ -11,6 +11,7 @@ pub mod free_space;
 pub mod logs;
 pub mod many_sets;
 pub mod packets;
+pub mod routing;
 pub mod shifts;
 pub mod votes;
 pub mod weekdays;
@@ -33,6 +34,8 @@ fn main(rt: HostRuntime) -> io::Result<()> {
     free_space::show(rt.alloc(), &rt)?;
     println!(rt; "# packets")?;
     packets::show(rt.alloc(), &rt)?;
+    println!(rt; "# routing")?;
+    routing::show(rt.alloc(), &rt)?;
     println!(rt; "# calendar")?;
     calendar::show(rt.alloc(), &rt)?;
     println!(rt; "# shifts")?;

@@ -1,0 +1,13 @@
+pub mod Contained
+pub mod Cuts
+pub mod Entries
+pub mod Inside
+pub mod Joined
+pub mod Keys
+pub mod Pairs
+pub mod Parted
+pub mod Placed
+pub mod Shortened
+pub mod Splits
+pub mod Starts
+pub mod Values

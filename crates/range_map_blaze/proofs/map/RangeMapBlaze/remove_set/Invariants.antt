@@ -1,0 +1,12 @@
+-- The runs that were removed, and those still to come, are those of the set.
+use Rattle.std.proofs.Common.{◌≡◌, ◌++◌, List}
+use Rattle.rsb_integer.specs.Rank.{intervals_of}
+use Rattle.rsb_integer.specs.Runs.{Interval, members}
+use Rattle.range_map_blaze.specs.Map.{value_at, IsWithout}
+use Rattle.range_map_blaze.proofs.map.RangeMapBlaze.remove_set.Given as goal
+
+abbrev pub invariant-loop-range : goal.invariant-loop-range
+invariant-loop-range g l =
+    (done : List Interval)
+    × (done ++ intervals_of g.T.Integer.rank l.range-iterator ≡ l.fn.set)
+    × IsWithout (value_at l.fn.self) (members done) (value_at l.self)

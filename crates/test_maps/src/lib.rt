@@ -1,0 +1,15 @@
+//! Tests of maps, by the public names of the library.
+#![tactic(auto)]
+
+#[cfg(test)]
+mod built;
+#[cfg(test)]
+mod changes;
+#[cfg(test)]
+mod many_ranges;
+#[cfg(test)]
+mod refusals;
+#[cfg(test)]
+mod rows;
+#[cfg(test)]
+mod slots;
