@@ -278,7 +278,7 @@ public:
     // The number of runs, gaps or members. Throws std::overflow_error if there are 2^64 members or more.
     // The view of a window has no size.
     template <class Of = Walk, class Size = typename Of::size_type, class = std::enable_if_t<!std::is_void_v<Size>>>
-    Size size() const noexcept(noexcept(std::declval<const Of &>().size(*set_))) {
+    Size size() const noexcept(noexcept(std::declval<const Of &>().size(std::declval<const typename Of::handle &>()))) {
         return Of::size(*set_);
     }
 
