@@ -38,6 +38,7 @@
 #error range_set.hpp needs C++17 or later: compile with -std=c++17
 #else
 
+#include "range_set/bytes.hpp"
 #include "range_set/gather.hpp"
 #include "range_set/iterators.hpp"
 #include "range_set/text.hpp"
@@ -699,6 +700,67 @@ public:
             }
         }
         return in;
+    }
+
+    // ---- Bytes, in the format of docs/FORMAT.md. They have the ranks of the members, counted from the least
+    // value of the type, and the number of bits that the set stores of each: 32, 64 or 128. Equal sets of a type
+    // have equal bytes, on every machine.
+
+    // Returns the bytes, which from_bytes reads.
+    std::vector<unsigned char> to_bytes() const {
+        constexpr std::size_t of_run = 2 * ((8 * sizeof(number_type) + 6) / 7);
+        std::vector<unsigned char> bytes(run_count() * of_run + 16);
+        std::size_t size = 0;
+        changed(c::to_bytes(&handle_, bytes.data(), bytes.size(), &size));
+        return std::vector<unsigned char>(bytes.data(), bytes.data() + size);
+    }
+
+    // Returns the set that has these bytes: those from a pointer on, or all of a std::vector, std::string,
+    // std::string_view, std::span or the like. Throws std::invalid_argument if they are those of no set of this
+    // type.
+    template <class Byte, class = detail::if_byte<Byte>> static set from_bytes(const Byte *bytes, std::size_t size) {
+        bytes_fault fault;
+        std::optional<set> read = try_from_bytes(bytes, size, &fault);
+        if (!read) {
+            RANGE_SET_THROW(std::invalid_argument("range_set: the bytes are no set of this type: byte " +
+                                                  std::to_string(fault.position) +
+                                                  " is wrong: " + detail::text_of(fault.reason)));
+        }
+        return std::move(*read);
+    }
+
+    template <class Bytes, class = detail::if_bytes<Bytes>> static set from_bytes(const Bytes &bytes) {
+        return from_bytes(bytes.data(), bytes.size());
+    }
+
+    // The same, but returns nothing if the bytes are those of no set of this type, and stores which one is wrong
+    // and why. Allocates memory only for runs that were read, whatever count of runs the bytes announce.
+    template <class Byte, class = detail::if_byte<Byte>>
+    static std::optional<set> try_from_bytes(const Byte *bytes, std::size_t size, bytes_fault *fault = nullptr) {
+        const auto *const start = reinterpret_cast<const unsigned char *>(bytes);
+        std::optional<set> made(std::in_place);
+        std::size_t end = size;
+        std::uint32_t reason = 0;
+        changed(c::from_bytes(&made->handle_, start, size, &end, &reason));
+        if (greatest() != detail::greatest_of<number_type>()) {
+            const std::size_t past = detail::bounded_reader<number_type>(start, end).first_past(greatest());
+            if (past < end) {
+                end = past;
+                reason = RSB_PAST_GREATEST;
+            }
+        }
+        if (reason != 0) {
+            made.reset();
+            if (fault != nullptr) {
+                *fault = {end, static_cast<bytes_reason>(reason)};
+            }
+        }
+        return made;
+    }
+
+    template <class Bytes, class = detail::if_bytes<Bytes>>
+    static std::optional<set> try_from_bytes(const Bytes &bytes, bytes_fault *fault = nullptr) {
+        return try_from_bytes(bytes.data(), bytes.size(), fault);
     }
 
 private:

@@ -64,6 +64,8 @@ struct as_halves {
         static constexpr auto gap_after = rsb_##width##_gap_after;                                                         \
         static constexpr auto gap_before = rsb_##width##_gap_before;                                                       \
         static constexpr auto from_runs = rsb_##width##_from_runs;                                                         \
+        static constexpr auto to_bytes = rsb_##width##_to_bytes;                                                           \
+        static constexpr auto from_bytes = rsb_##width##_from_bytes;                                                       \
         static constexpr auto either = rsb_##width##_union;                                                                \
         static constexpr auto both = rsb_##width##_intersection;                                                           \
         static constexpr auto left_alone = rsb_##width##_difference;                                                       \

@@ -25,6 +25,8 @@ template <class Set> static void leaves_sets_unchanged_if_an_allocation_fails() 
     CHECK(failures(a, b, [&] { Set made = Set::from_runs(runs.data(), 2); }) > 0);
     CHECK(failures(a, b, [&] { Set made(a.values()); }) > 2 &&
           failures(a, b, [&] { Set made = Set::parse("1, 3"); }) > 1);
+    const std::vector<unsigned char> bytes = a.to_bytes();
+    CHECK(failures(a, b, [&] { a.to_bytes(); }) > 2 && failures(a, b, [&] { Set made = Set::from_bytes(bytes); }) > 0);
 }
 
 template <class Set> static void changes_all_or_nothing_if_an_allocation_fails() {

@@ -31,7 +31,9 @@ int main() {
     range_set::u32_set a{{1, 5}, {10, 20}}, b{{4, 12}};
     holds(a.insert(7) && !a.contains(-1) && (a & b).size() == 6 && a.clone() == a && a.gaps().begin()->last == 0);
     holds((a | b).contains(1, 20) && range_set::u32_set::union_of({a, b}).run_count() == 1);
+    holds(range_set::u32_set::from_bytes(a.to_bytes()) == a && !range_set::u64_set::try_from_bytes(a.to_bytes()));
     aborts([&] { a.insert(-1); });
+    aborts([&] { range_set::u64_set::from_bytes("RSB", 3); });
     aborts([&] { (~range_set::u64_set()).size(); });
     std::printf("the class compiles with -fno-exceptions, and aborts where it would throw\n");
     return 0;
