@@ -47,7 +47,8 @@ template <class Bytes> using if_bytes =
     std::enable_if_t<is_byte<std::remove_reference_t<decltype(*std::declval<const Bytes &>().data())>> &&
                      sizeof(std::declval<const Bytes &>().size()) != 0>;
 
-// Reads the bytes of a set whose ranks may be all numbers, as one whose ranks have a greatest one.
+// Reads the bytes of a set whose ranks may be all numbers, as one whose ranks have a greatest one
+// (docs/DECISIONS.md, bytes-by-storage).
 template <class Number> class bounded_reader {
 public:
     bounded_reader(const unsigned char *start, std::size_t size) noexcept : bytes_(start), size_(size) {}

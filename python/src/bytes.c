@@ -61,7 +61,7 @@ static number read_number(const unsigned char *bytes, size_t at, size_t end, wid
 }
 
 /* Returns the position of the first byte with which a number is too large for an element with fewer ranks than its width, or
-   `end`. The bytes before `end` are the first ones of a set of the width. */
+   `end`. The bytes before `end` are the first ones of a set of the width (docs/DECISIONS.md, bytes-by-storage). */
 static size_t past_top(const element *of, const unsigned char *bytes, size_t end) {
     wide top = of->top, next = 0;
     number read = read_number(bytes, 6, end, top / 2 + 1);

@@ -169,7 +169,7 @@ class BadBytes(unittest.TestCase):
             data = bytearray(chance.choice(sets))
             for _ in range(chance.randint(1, 2)):
                 at = chance.randrange(5 if chance.random() < 0.9 else 0, len(data) + 1)
-                data[at : at + chance.randint(0, 1)] = bytes(chance.choice((0, 1, 2, 5, 11, 12, 127, 128, 129, 255)) for _ in range(chance.randint(0, 2)))
+                data[at : at + chance.randint(0, 1)] = bytes(chance.choice((0, 1, 2, 5, 6, 7, 11, 12, 127, 128, 129, 255)) for _ in range(chance.randint(0, 2)))
             data = bytes(data)
             if data in sets:
                 continue

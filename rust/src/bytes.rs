@@ -242,7 +242,7 @@ impl Ranks {
     }
 
     /// Finds the first byte with which no set of these ranks begins. Some set of all ranks of the
-    /// width begins with the bytes.
+    /// width begins with the bytes (docs/DECISIONS.md, bytes-by-storage).
     fn first_outside(&self, bytes: &[u8]) -> Option<Fault> {
         if self.are_all || self.first > self.last {
             return None;

@@ -237,7 +237,7 @@ fn positions_by_all_sets_of_a_type() {
             let at = (start + draw(bytes.len() + 1)).min(bytes.len());
             let end = (at + draw(2)).min(bytes.len());
             let new: Vec<u8> = (0..draw(3))
-                .map(|_| [0, 1, 2, 4, 5, 11, 16, 17, 127, 128, 133, 255][draw(12)])
+                .map(|_| [0, 1, 2, 4, 5, 6, 7, 11, 16, 17, 127, 128, 133, 255][draw(14)])
                 .collect();
             bytes.splice(at..end, new);
         }

@@ -135,6 +135,9 @@ fn call_all<T: Element + std::fmt::Debug + std::fmt::Display + FromStr>(value: f
         set.to_string(),
         "1..=3, 5".parse::<RangeSet<T>>().is_ok(),
     ));
+    let bytes = set.to_bytes();
+    let _ = RangeSet::<T>::from_bytes(&bytes).is_ok();
+    let _ = RangeSet::<T>::from_bytes(&bytes[..bytes.len() - 1]).is_ok();
     let _ = (set.is_universal(), RangeSet::<T>::universe().first());
 }
 

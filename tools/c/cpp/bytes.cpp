@@ -119,7 +119,7 @@ static void find_positions_by_all_sets() {
         }
     }
     std::mt19937 generator(3);
-    const unsigned char letters[] = {0, 1, 2, 3, 6, 7, 127, 128, 129, 255};
+    const unsigned char letters[] = {0, 1, 2, 3, 4, 5, 6, 7, 127, 128, 129, 255};
     std::set<bytes_reason> seen;
     for (int round = 0; round < 20000; ++round) {
         octets given = all[generator() % all.size()];
