@@ -232,7 +232,7 @@ class RangeSet(IntOptions, Changes[int, Int, IntItem]):
             >>> RangeSet.from_bytes(data[:-1])
             Traceback (most recent call last):
                 ...
-            ValueError: these bytes are no set, by the one at position 14: CutShort: the bytes end before the last run does
+            ValueError: not the bytes of a set, at position 14: CutShort: the bytes end before the last run does
         """
         kept = plain_bytes(data)
         return cls._of(kept, bits=bits_of(kept, WIDTHS), signed=signed)

@@ -98,7 +98,7 @@ PyObject *set_of_bytes(PyObject *self, PyObject *data) {
     }
     if (reason) {
         Py_DECREF(made);
-        return PyErr_Format(PyExc_ValueError, "these bytes are no set, by the one at position %zu: %s", position, reasons[reason]);
+        return PyErr_Format(PyExc_ValueError, "not the bytes of a set, at position %zu: %s", position, reasons[reason]);
     }
     return (PyObject *)made;
 }

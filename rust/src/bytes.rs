@@ -89,7 +89,7 @@ impl fmt::Display for BytesError {
     fn fmt(&self, f: &mut fmt::Formatter<'_>) -> fmt::Result {
         match self {
             BytesError::BadBytes { position, reason } => {
-                write!(f, "wrong byte of a set at {position}: {reason}")
+                write!(f, "not the bytes of a set, at byte {position}: {reason}")
             }
             BytesError::NoMemory(error) => error.fmt(f),
         }

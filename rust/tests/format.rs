@@ -118,7 +118,7 @@ fn worked_rows_of_bad_bytes() {
         assert_eq!(fault::<u8>(bytes), (position, reason), "{bytes:?}");
     }
     let error = RangeSet::<u8>::from_bytes(b"\xF5RSX").unwrap_err();
-    let said = "wrong byte of a set at 3: the bytes of a set begin otherwise";
+    let said = "not the bytes of a set, at byte 3: the bytes of a set begin otherwise";
     assert_eq!(error.to_string(), said);
     assert_eq!(fault::<u64>(b"\xF5RSB\x01\x80\0"), (5, OtherWidth));
 }

@@ -126,6 +126,6 @@ fn a_binary_format_has_the_bytes() {
 #[test]
 fn bad_bytes_are_an_error_that_says_where() {
     let error = RangeSet::<u8>::deserialize(Reader(b"\xF5RSB\x01\x20\x01\xFF\x01\x01"));
-    let wanted = "wrong byte of a set at 9: the number is too large";
+    let wanted = "not the bytes of a set, at byte 9: the number is too large";
     assert_eq!(error.unwrap_err().to_string(), wanted);
 }
