@@ -74,6 +74,24 @@ impl Element for Upper {
     }
 }
 
+/// A type whose ranks differ in their low seven bits from most numbers: these are 104 to 114.
+#[derive(Clone, Copy, Debug, PartialEq, Eq, PartialOrd, Ord)]
+struct Narrow(u64);
+
+impl Element for Narrow {
+    type Rank = u64;
+    const MIN: Self = Narrow(1000);
+    const MAX: Self = Narrow(1010);
+
+    fn rank(self) -> u64 {
+        self.0
+    }
+
+    fn from_rank(rank: u64) -> Self {
+        Narrow(rank)
+    }
+}
+
 #[test]
 fn worked_rows() {
     let set = RangeSet::<u8>::from_iter([3..=7, 10..=10, 200..=255]);
@@ -140,6 +158,31 @@ fn a_type_of_upper_ranks() {
     );
     assert_eq!(
         fault::<Year>(&bytes_of(64, &[(7000, 7000)])),
+        (8, PastGreatest)
+    );
+}
+
+#[test]
+fn the_low_bits_of_a_rank_may_be_wrong() {
+    use BytesReason::*;
+    for rank in 1000..=1010 {
+        let bytes = bytes_of(64, &[(rank, rank)]);
+        assert_eq!(
+            RangeSet::from_bytes(&bytes),
+            Ok(RangeSet::from([Narrow(rank as u64)]))
+        );
+    }
+    for rank in [900, 996, 1011, 1023, 1024, 1099] {
+        let bytes = bytes_of(64, &[(rank, rank)]);
+        assert_eq!(fault::<Narrow>(&bytes), (7, PastGreatest), "{rank}");
+    }
+    let (below, above) = (1005 - 128, 1005 + 128);
+    assert_eq!(
+        fault::<Narrow>(&bytes_of(64, &[(below, below)])),
+        (8, BelowLeast)
+    );
+    assert_eq!(
+        fault::<Narrow>(&bytes_of(64, &[(above, above)])),
         (8, PastGreatest)
     );
 }
