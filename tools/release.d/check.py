@@ -54,8 +54,8 @@ class Trial:
 
 def put_files(root, out):
     """Writes the files of the release, README's programs, the examples and the lists of the sessions to /srv."""
-    for file in out.iterdir():
-        root.put(file, f"{FILES}/{file.name}")
+    for file in (path for path in out.rglob("*") if path.is_file()):
+        root.put(file, f"{FILES}/{file.relative_to(out)}")
     source, _, _ = pages.c_session()
     for folder in ("", "/project", "/release"):
         root.write(f"/srv{folder}/session.c", source)
@@ -163,6 +163,19 @@ def try_packages(trial, has_rust):
     trial.leaves_nothing("the removal of the packages", before)
 
 
+def try_postgres(trial):
+    """Installs the package for PostgreSQL, tries the page's query in a server of one process, and purges the package."""
+    before = trial.root.files()
+    trial.prints("dpkg installs the package for PostgreSQL", f"dpkg -i {FILES}/{debian.POSTGRES_FOLDER}/*.deb", None)
+    server, data = "/usr/lib/postgresql/15/bin", "/tmp/sets"
+    trial.prints("a cluster is made", f"su postgres -c '{server}/initdb -D {data} >/dev/null'", "")
+    asks = f"{server}/postgres --single -D {data} postgres 2>/dev/null </srv/query.sql | grep -o '{pages.SETS_OF_POSTGRES[1]}'"
+    trial.root.write("/srv/query.sql", pages.SETS_OF_POSTGRES[0])
+    trial.prints("the query of docs/DATA.md", f'su postgres -c "{asks}"', pages.SETS_OF_POSTGRES[1] + "\n")
+    trial.prints("dpkg removes the package for PostgreSQL", f"rm -r {data} /srv/query.sql; dpkg -P {debian.POSTGRES}", None)
+    trial.leaves_nothing("the package for PostgreSQL", before)
+
+
 def try_release(release, out):
     """Tries all of a release on a release of Debian, and returns how many facts passed and failed."""
     has_rust = "rustc" in RELEASES[release]
@@ -180,6 +193,10 @@ def try_release(release, out):
         else:
             say(f"{release}: left out: the Rust crate, since its rustc is older than 1.82")
         try_packages(trial, has_rust)
+        if "postgresql" in RELEASES[release] and (out / debian.POSTGRES_FOLDER).exists():
+            try_postgres(trial)
+        else:
+            say(f"{release}: left out: the package for PostgreSQL 15")
         return trial.passed, trial.failed
 
 

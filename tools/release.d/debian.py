@@ -19,6 +19,10 @@ MULTIARCH = "x86_64-linux-gnu"
 LIBRARIES = f"usr/lib/{MULTIARCH}"
 PACKAGES = {LIBRARY: "library", "librange-set-dev": "development", "python3-range-set": "python", "ip-lists": "programs"}
 TRIGGER = "activate-noawait ldconfig\n"
+# The package for PostgreSQL is in a folder of its own, so that README's command does not install PostgreSQL.
+POSTGRES = "postgresql-15-range-set"
+POSTGRES_FOLDER = "postgresql"
+PGXS = Path("/usr/lib/postgresql/15/lib/pgxs/src/makefiles/pgxs.mk")
 
 
 def maintainer():
@@ -105,7 +109,16 @@ def program_files(tree, room):
     copied(tree / "share" / completions, room / "usr/share" / completions)
 
 
-FILES = {"library": library_files, "development": development_files, "python": python_files, "programs": program_files}
+def postgres_files(tree, room):
+    """Builds the extension for PostgreSQL over the static library, and copies its files."""
+    sources = room.parent / "postgres"
+    shutil.copytree(ROOT / "postgres", sources)
+    run("make", "-s", "-C", sources, f"PREFIX={tree}", f"DESTDIR={room}", "install")
+    run("strip", "--strip-unneeded", room / "usr/lib/postgresql/15/lib/range_set.so")
+    shutil.rmtree(sources)
+
+
+FILES = {"library": library_files, "development": development_files, "python": python_files, "programs": program_files, "postgres": postgres_files}
 
 
 def control(kind, room):
@@ -165,4 +178,10 @@ def lint(made):
 def packages(tree, folder, out):
     """Makes all packages from a tree of the archive."""
     need("dpkg-deb", "xz", "lintian")
-    lint([package(name, kind, tree, folder, out) for name, kind in PACKAGES.items()])
+    made = [package(name, kind, tree, folder, out) for name, kind in PACKAGES.items()]
+    if PGXS.is_file():
+        (out / POSTGRES_FOLDER).mkdir()
+        made.append(package(POSTGRES, "postgres", tree, folder, out / POSTGRES_FOLDER))
+    else:
+        say(f"left out: {POSTGRES}, which needs Debian's postgresql-server-dev-15")
+    lint(made)

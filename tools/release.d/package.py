@@ -36,8 +36,8 @@ def source_archive(out):
 
 def write_sums(out):
     """Writes the sums of all files of the release."""
-    files = sorted(path for path in out.iterdir() if path.name != "SHA256SUMS")
-    (out / "SHA256SUMS").write_text("".join(f"{archives.sum_of(path)}  {path.name}\n" for path in files))
+    files = sorted(path for path in out.rglob("*") if path.is_file() and path.name != "SHA256SUMS")
+    (out / "SHA256SUMS").write_text("".join(f"{archives.sum_of(path)}  {path.relative_to(out)}\n" for path in files))
 
 
 def release(built, out):
@@ -56,5 +56,5 @@ def release(built, out):
         rust_crate.crate(out)
         debian.packages(tree, Path(folder), out)
     write_sums(out)
-    for path in sorted(out.iterdir()):
-        say(f"{path.stat().st_size:>10} {path.name}")
+    for path in sorted(path for path in out.rglob("*") if path.is_file()):
+        say(f"{path.stat().st_size:>10} {path.relative_to(out)}")

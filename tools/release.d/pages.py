@@ -26,6 +26,10 @@ def session(page, begins):
     return [tuple(part.split("\n", 1)) for part in parts]
 
 
+# The session with PostgreSQL in docs/DATA.md, and what it returns.
+SETS_OF_POSTGRES = (blocks("docs/DATA.md", "sql")[0].replace("\n    ", " "), "1..=2, 23..=30")
+
+
 def install(kind):
     """Returns README's command that installs a kind of file, such as `*.deb`, without comment and `sudo`."""
     lines = [line.split("  #")[0] for line in blocks("README.md", "sh")[0].splitlines()]

@@ -11,8 +11,9 @@ KEPT = ROOT / "out" / "roots"
 MIRROR = "http://deb.debian.org/debian"
 COMMON = "gcc,g++,libc6-dev,make,cmake,pkg-config,python3,python3-dev,python3-venv,python3-pip,binutils,man-db"
 RUST = "rustc-web,cargo-web"
+POSTGRES = "postgresql-15"
 # What each release of Debian has that the check uses, from the newest to the oldest.
-RELEASES = {"bookworm": f"{COMMON},{RUST}", "bullseye": COMMON}
+RELEASES = {"bookworm": f"{COMMON},{RUST},{POSTGRES}", "bullseye": COMMON}
 # Folders in which packages leave logs and caches that no package owns.
 IGNORED = ("proc", "sys", "dev", "run", "tmp", "var/log", "var/cache", "var/lib/dpkg", "var/lib/apt", "srv")
 ENVIRONMENT = {"PATH": "/usr/local/bin:/usr/bin:/bin:/usr/sbin:/sbin", "HOME": "/srv", "LC_ALL": "C.UTF-8", "LANG": "C.UTF-8"}
