@@ -168,7 +168,7 @@ def try_postgres(trial):
     before = trial.root.files()
     trial.prints("dpkg installs the package for PostgreSQL", f"dpkg -i {FILES}/{debian.POSTGRES_FOLDER}/*.deb", None)
     server, data = "/usr/lib/postgresql/15/bin", "/tmp/sets"
-    trial.prints("a cluster is made", f"su postgres -c '{server}/initdb -D {data} >/dev/null'", "")
+    trial.prints("a cluster is made", f"su postgres -c '{server}/initdb -A trust -D {data} >/dev/null'", "")
     asks = f"{server}/postgres --single -D {data} postgres 2>/dev/null </srv/query.sql | grep -o '{pages.SETS_OF_POSTGRES[1]}'"
     trial.root.write("/srv/query.sql", pages.SETS_OF_POSTGRES[0])
     trial.prints("the query of docs/DATA.md", f'su postgres -c "{asks}"', pages.SETS_OF_POSTGRES[1] + "\n")
