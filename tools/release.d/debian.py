@@ -113,7 +113,7 @@ def postgres_files(tree, room):
     """Builds the extension for PostgreSQL over the static library, and copies its files."""
     sources = room.parent / "postgres"
     shutil.copytree(ROOT / "postgres", sources)
-    run("make", "-s", "-C", sources, f"PREFIX={tree}", f"DESTDIR={room}", "install")
+    run("make", "-s", "-C", sources, "COPT=-g0", f"PREFIX={tree}", f"DESTDIR={room}", "install")
     run("strip", "--strip-unneeded", room / "usr/lib/postgresql/15/lib/range_set.so")
     shutil.rmtree(sources)
 
