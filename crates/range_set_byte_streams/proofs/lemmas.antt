@@ -1,0 +1,2 @@
+-- Bytes in streams.
+pub mod Written
