@@ -1,9 +1,7 @@
-//! Sets of integers as bytes, written to and read from streams.
+//! Sets of integers as bytes, written to streams.
 #![tactic(auto)]
 
-pub mod fault;
 mod page;
 pub mod write;
 
-pub use fault::StreamError;
 pub use write::write_to;

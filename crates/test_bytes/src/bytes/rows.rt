@@ -46,7 +46,7 @@ fn the_examples_of_the_page_are_written_and_read(rt: HostRuntime) -> Result<(), 
 }
 
 /// Returns a set of 50,000 runs, of one to seven values each.
-fn many_runs(alloc: Global) -> Result<RangeSetBlaze<u32>, AllocError> {
+pub fn many_runs(alloc: Global) -> Result<RangeSetBlaze<u32>, AllocError> {
     let mut set = RangeSetBlaze::new(alloc);
     for i in 0..50_000u32 {
         set.ranges_insert(i * 300..=i * 300 + i % 7)?;
