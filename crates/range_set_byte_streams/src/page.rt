@@ -1,4 +1,4 @@
-//! Bytes that wait to be written, in a buffer of fixed size (docs/DECISIONS.md, page).
+//! Bytes that wait to be written, in a buffer of fixed size (docs/DECISIONS.md, byte-streams).
 
 ghost use Rattle.std.specs.Prelude.{◌≡◌, ◌+◌, ◌<◌, ◌≤◌, ◌++◌, [], ◌∷◌, OnOk, length};
 ghost use Rattle.range_set_bytes.specs.Leb128.{leb128};
