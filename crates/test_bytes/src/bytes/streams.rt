@@ -10,10 +10,7 @@ use std::test::*;
 use test_support::Counting;
 
 /// Whether what is written is what `to_bytes` returns, and is read as the set.
-fn is_streamed<T: RankedInteger>(
-    alloc: Global,
-    set: &RangeSetBlaze<T>,
-) -> Result<bool, ReadError> {
+fn is_streamed<T: RankedInteger>(alloc: Global, set: &RangeSetBlaze<T>) -> Result<bool, ReadError> {
     let bytes = to_bytes(alloc, set)?;
     let mut output: Vec<u8> = Vec::new(alloc);
     let done = write_to(set, &mut output).is_ok();
