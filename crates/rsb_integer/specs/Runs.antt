@@ -52,8 +52,11 @@ members runs rank = nat_lt 0 (cover runs rank)
 -- before each of the others.
 abbrev pub IsCanonicalFrom : ℕ → List Interval → Type 0
 IsCanonicalFrom low [] = Unit {0}
-IsCanonicalFrom low (run ∷ runs) =
-    (low ≤ run.first) × (run.first ≤ run.last) × IsCanonicalFrom (run.last + 2) runs
+IsCanonicalFrom low (run ∷ runs) = record {
+  starts : low ≤ run.first;
+  in_order : run.first ≤ run.last;
+  rest : IsCanonicalFrom (run.last + 2) runs;
+}
 
 -- Whether the intervals are non-empty, ascend, and neither overlap nor touch.
 abbrev pub IsCanonical : List Interval → Type 0
@@ -64,8 +67,9 @@ abbrev pub AllEndBelow : ℕ → List Interval → Type 0
 AllEndBelow n runs = All (λ (run : Interval). run.last < n) runs
 
 -- Whether the list is canonical and within a type of n values.
-abbrev pub IsCanonicalIn : ℕ → List Interval → Type 0
-IsCanonicalIn n runs = IsCanonical runs × AllEndBelow n runs
+pub record IsCanonicalIn (n : ℕ) (runs : List Interval) : Type 0 where
+  pub apart : IsCanonical runs
+  pub within : AllEndBelow n runs
 
 -- ---- the runs of a set, in a type of n values
 

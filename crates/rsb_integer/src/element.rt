@@ -4,7 +4,7 @@
 ghost use Rattle.std.specs.Prelude.{◌≡◌, ◌<◌, ◌∷◌, length, slice_index_or};
 ghost use Rattle.std.proofs.Common.{le_trans, lit≤};
 ghost use Rattle.rsb_integer.specs.Enumerated.{place_in};
-ghost use Rattle.rsb_integer.specs.EnumeratedLaws.{listed-exact, listed-in_order, listed-ranks};
+ghost use Rattle.rsb_integer.specs.laws.Enumerated.{listed-exact, listed-in_order, listed-ranks};
 
 use crate::enumerated::Enumerated;
 use crate::integer::Integer;

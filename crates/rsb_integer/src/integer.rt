@@ -7,7 +7,13 @@ ghost use Rattle.std.specs.Range.{range_inclusive_start, range_inclusive_end};
 ghost use Rattle.std.proofs.lemmas.Map.Lookups.{CmpEqualImpliesEq};
 ghost use Rattle.rsb_integer.specs.Rank.{interval_of};
 ghost use Rattle.rsb_integer.specs.Room.{two_ends, HaveRoom};
-ghost use Rattle.rsb_integer.specs.Runs.{length_of, HasRanks, HasNoRanks, IsAfterFirst, IsBeforeLast};
+ghost use Rattle.rsb_integer.specs.Runs.{
+  length_of,
+  HasRanks,
+  HasNoRanks,
+  IsAfterFirst,
+  IsBeforeLast,
+};
 
 use num_traits::{One, Zero};
 use rsb_length::SafeLength;

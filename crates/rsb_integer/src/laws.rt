@@ -3,8 +3,27 @@
 ghost use Rattle.std.specs.Prelude.{◌≡◌, ◌↔◌, ℕ, ◌+◌, ◌<◌, ◌≤◌, IsTrue, List, length};
 ghost use Rattle.std.specs.declared.ops.RangeInclusive.{RangeInclusive};
 ghost use Rattle.rsb_integer.specs.Rank.{intervals_of};
-ghost use Rattle.rsb_integer.specs.Runs.{Interval, length_of, members, AllEndBelow, AreRuns, IsCanonical, IsCanonicalIn};
-ghost use Rattle.rsb_integer.specs.Selection.{Agree, Selection, all_of, any_of, at_least, complement, difference, intersection, symmetric_difference, union};
+ghost use Rattle.rsb_integer.specs.Runs.{
+  Interval,
+  length_of,
+  members,
+  AllEndBelow,
+  AreRuns,
+  IsCanonical,
+  IsCanonicalIn,
+};
+ghost use Rattle.rsb_integer.specs.Selection.{
+  Agree,
+  Selection,
+  all_of,
+  any_of,
+  at_least,
+  complement,
+  difference,
+  intersection,
+  symmetric_difference,
+  union,
+};
 
 use crate::integer::Integer;
 

@@ -3,7 +3,12 @@
 ghost use Rattle.std.specs.Prelude.{◌≡◌, ◌↔◌, ℕ, ◌+◌, ◌-◌, ◌≤◌, ◌^◌, pos, Some, IsTrue};
 ghost use Rattle.std.specs.Ordering.{nat_cmp};
 ghost use Rattle.std.proofs.Common.{refl};
-ghost use Rattle.rsb_length.specs.SafeLength.{unsigned-difference, unsigned-equal, unsigned-fits, unsigned-sum_fits};
+ghost use Rattle.rsb_length.specs.SafeLength.{
+  unsigned-difference,
+  unsigned-equal,
+  unsigned-fits,
+  unsigned-sum_fits,
+};
 
 use num_traits::{One, Zero};
 use std::ops::{AddAssign, SubAssign};

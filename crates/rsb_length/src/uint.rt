@@ -3,7 +3,24 @@
 //! `checked_difference` has the clause `value` because nothing else in generic code says that a
 //! number is at most the greatest one.
 
-ghost use Rattle.std.specs.Prelude.{◌≡◌, ◌↔◌, ℕ, ◌+◌, ◌-◌, ◌*◌, ◌<◌, ◌≤◌, ◌^◌, List, pos, Some, IsNone, IfSome, IsTrue, codes};
+ghost use Rattle.std.specs.Prelude.{
+  ◌≡◌,
+  ◌↔◌,
+  ℕ,
+  ◌+◌,
+  ◌-◌,
+  ◌*◌,
+  ◌<◌,
+  ◌≤◌,
+  ◌^◌,
+  List,
+  pos,
+  Some,
+  IsNone,
+  IfSome,
+  IsTrue,
+  codes,
+};
 ghost use Rattle.std.specs.Ordering.{nat_cmp};
 ghost use Rattle.std.proofs.Common.{refl};
 ghost use Rattle.rsb_length.specs.SafeLength.{unsigned-equal, unsigned-fits};

@@ -4,7 +4,20 @@ ghost use Rattle.std.specs.Prelude.{◌≡◌, ◌≢◌, ℕ, ◌+◌, ◌*◌,
 ghost use Rattle.std.specs.Ordering.{nat_cmp};
 ghost use Rattle.std.proofs.Common.{ap, refl};
 ghost use Rattle.num_traits.specs.Ints.{unsigned-order};
-ghost use Rattle.rsb_length.specs.UIntPlusOne.{IsUpTo, IsUpTo-between, number_of, one-le_next, order-by_number, plus_one_at, plus_one_at-number, same-integers, same-number_of, stretched-within, text_of, zero-le};
+ghost use Rattle.rsb_length.specs.UIntPlusOne.{
+  IsUpTo,
+  IsUpTo-between,
+  number_of,
+  one-le_next,
+  order-by_number,
+  plus_one_at,
+  plus_one_at-number,
+  same-integers,
+  same-number_of,
+  stretched-within,
+  text_of,
+  zero-le,
+};
 
 use crate::safe_length::SafeLength;
 use crate::uint::UInt;

@@ -1,4 +1,4 @@
-pub mod NumberLaws
 pub mod Numbers
 pub mod Reading
 pub mod Text
+pub mod laws

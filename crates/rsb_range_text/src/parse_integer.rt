@@ -4,7 +4,7 @@ ghost use Rattle.std.specs.Prelude.{◌≡◌, ℕ, ℤ, ◌*◌, ◌+◌, ◌<�
 ghost use Rattle.std.specs.Int.{FitsUnsignedBits, w8, w16, w32, w64, w128};
 ghost use Rattle.std.specs.Int.RustNames.{FitsSigned};
 ghost use Rattle.std.proofs.Common.{lit<, lit≤, refl};
-ghost use Rattle.rsb_range_text.specs.NumberLaws.{signed-numbers, unsigned-numbers};
+ghost use Rattle.rsb_range_text.specs.laws.Number.{signed-numbers, unsigned-numbers};
 ghost use Rattle.rsb_range_text.specs.Numbers.{AreNumbers};
 ghost use Rattle.rsb_range_text.specs.Text.{HasDigit, signed_by};
 

@@ -6,7 +6,12 @@ ghost use Rattle.std.specs.declared.ops.RangeInclusive.{RangeInclusive as Range}
 ghost use Rattle.rsb_integer.specs.Rank.{range_of};
 ghost use Rattle.rsb_range_text.specs.Reading.{Finishes, Steps, start_or};
 ghost use Rattle.rsb_range_text.specs.Text.{IsFirstUnexpected, Spells, is_blank as is_blank_byte};
-ghost use Rattle.rsb_range_text.specs.declared.ranges.Place.TheVariants.{Signed, Digits, Behind, Before};
+ghost use Rattle.rsb_range_text.specs.declared.ranges.Place.TheVariants.{
+  Signed,
+  Digits,
+  Behind,
+  Before,
+};
 
 use crate::parse_error::ParseError;
 use crate::parse_integer::ParseInteger;

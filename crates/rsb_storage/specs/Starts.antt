@@ -35,8 +35,11 @@ with_run run runs = runs_below run.first runs ++ run ∷ runs_past run.first run
 -- Whether the starts ascend strictly, from `low` or later, and are below n.
 abbrev pub StartsAscendFrom : ℕ → ℕ → List Interval → Type 0
 StartsAscendFrom n low [] = Unit {0}
-StartsAscendFrom n low (run ∷ runs) =
-    (low ≤ run.first) × (run.first < n) × StartsAscendFrom n (run.first + 1) runs
+StartsAscendFrom n low (run ∷ runs) = record {
+  starts : low ≤ run.first;
+  in_type : run.first < n;
+  rest : StartsAscendFrom n (run.first + 1) runs;
+}
 
 -- ---- one run among others
 

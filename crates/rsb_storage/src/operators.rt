@@ -2,11 +2,11 @@
 
 ghost use Rattle.rsb_streams.specs.Results.{
   CanDrawBoth,
-  MakesComplement,
+  MakesComplementUndrawn,
   MakesDifference,
   MakesIntersection,
   MakesSymmetricDifference,
-  MakesUnion,
+  MakesUnionUndrawn,
 };
 
 use crate::into_ranges_iter::IntoRangesIter;
@@ -23,7 +23,7 @@ impl<'a, T: Integer, R: DrawDisjoint<T>> BitOr<R> for RangesIter<'a, T> {
 
     ghost can_bitor = { CanDrawBoth ⟦<RangesIter<'a, T> as Draw<T>>⟧ R.Draw };
 
-    ghost bitor_gives = { MakesUnion T.Integer.own ⟦<RangesIter<'a, T> as Draw<T>>⟧ R.Draw
+    ghost bitor_gives = { MakesUnionUndrawn T.Integer.own ⟦<RangesIter<'a, T> as Draw<T>>⟧ R.Draw
         ⟦<Union<T, RangesIter<'a, T>, R> as Draw<T>>⟧ };
 
     fn bitor(self, other: R) -> Self::Output {
@@ -76,7 +76,7 @@ impl<'a, T: Integer> Not for RangesIter<'a, T> {
 
     ghost can_not = { ⟦<RangesIter<'a, T> as Draw<T>>⟧.can_draw };
 
-    ghost not_gives = { MakesComplement T.Integer.own ⟦<RangesIter<'a, T> as Draw<T>>⟧
+    ghost not_gives = { MakesComplementUndrawn T.Integer.own ⟦<RangesIter<'a, T> as Draw<T>>⟧
         ⟦<NotIter<T, RangesIter<'a, T>> as Draw<T>>⟧ };
 
     fn not(self) -> Self::Output {
@@ -89,7 +89,7 @@ impl<T: Integer, A: Allocator, R: DrawDisjoint<T>> BitOr<R> for IntoRangesIter<T
 
     ghost can_bitor = { CanDrawBoth ⟦<IntoRangesIter<T, A> as Draw<T>>⟧ R.Draw };
 
-    ghost bitor_gives = { MakesUnion T.Integer.own ⟦<IntoRangesIter<T, A> as Draw<T>>⟧ R.Draw
+    ghost bitor_gives = { MakesUnionUndrawn T.Integer.own ⟦<IntoRangesIter<T, A> as Draw<T>>⟧ R.Draw
         ⟦<Union<T, IntoRangesIter<T, A>, R> as Draw<T>>⟧ };
 
     fn bitor(self, other: R) -> Self::Output {
@@ -143,7 +143,7 @@ impl<T: Integer, A: Allocator> Not for IntoRangesIter<T, A> {
 
     ghost can_not = { ⟦<IntoRangesIter<T, A> as Draw<T>>⟧.can_draw };
 
-    ghost not_gives = { MakesComplement T.Integer.own ⟦<IntoRangesIter<T, A> as Draw<T>>⟧
+    ghost not_gives = { MakesComplementUndrawn T.Integer.own ⟦<IntoRangesIter<T, A> as Draw<T>>⟧
         ⟦<NotIter<T, IntoRangesIter<T, A>> as Draw<T>>⟧ };
 
     fn not(self) -> Self::Output {

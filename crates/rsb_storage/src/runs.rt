@@ -1,10 +1,42 @@
 //! The runs of a set, in a `BTreeMap`.
 
-ghost use Rattle.std.specs.Prelude.{◌≡◌, ◌↔◌, ◌+◌, ◌-◌, ◌^◌, ◌<◌, ◌≤◌, [], ◌++◌, length, slice_get, Contains, IfOk, IfSome, IsNone, IsOk, IsTrue, MatchOption, OnErr, OnOk, Some};
+ghost use Rattle.std.specs.Prelude.{
+  ◌≡◌,
+  ◌↔◌,
+  ◌+◌,
+  ◌-◌,
+  ◌^◌,
+  ◌<◌,
+  ◌≤◌,
+  [],
+  ◌++◌,
+  length,
+  slice_get,
+  Contains,
+  IfOk,
+  IfSome,
+  IsNone,
+  IsOk,
+  IsTrue,
+  MatchOption,
+  OnErr,
+  OnOk,
+  Some,
+};
 ghost use Rattle.rsb_integer.specs.Rank.{intervals_of};
 ghost use Rattle.rsb_integer.specs.Runs.{Interval, IsCanonicalIn};
 ghost use Rattle.rsb_storage.specs.Storage.{run_of, runs_of};
-ghost use Rattle.rsb_storage.specs.Starts.{runs_below, runs_past, starting_from, with_run, without_start, IsLastBelow, IsLastTwo, NoneBelow, StartsWith};
+ghost use Rattle.rsb_storage.specs.Starts.{
+  runs_below,
+  runs_past,
+  starting_from,
+  with_run,
+  without_start,
+  IsLastBelow,
+  IsLastTwo,
+  NoneBelow,
+  StartsWith,
+};
 ghost use Rattle.rsb_storage.specs.Windows.{starting_within};
 
 use crate::entries::{last_run, next_in_range};

@@ -63,12 +63,24 @@ first_of run = record { first = run.first; last = run.first }
 firsts-canonical : (low : ℕ) (runs : List Interval) → IsCanonicalFrom low runs
     → IsCanonicalFrom low (map first_of runs)
 firsts-canonical low [] canonical = tt
-firsts-canonical low (run ∷ []) canonical = (canonical.0, omega arith, tt)
+firsts-canonical low (run ∷ []) canonical = record {
+  starts = canonical.starts;
+  in_order = omega arith;
+  rest = tt;
+}
 firsts-canonical low (run ∷ other ∷ runs) canonical =
-    let rest = firsts-canonical (run.last + 2) (other ∷ runs) canonical.2 in
-    let order = canonical.1 in
-    let apart = rest.0 in
-    (canonical.0, omega arith, (omega (arith, order, apart), rest.1, rest.2))
+    let rest = firsts-canonical (run.last + 2) (other ∷ runs) canonical.rest in
+    let order = canonical.in_order in
+    let apart = rest.starts in
+    record {
+      starts = canonical.starts;
+      in_order = omega arith;
+      rest = record {
+        starts = omega (arith, order, apart);
+        in_order = rest.in_order;
+        rest = rest.rest;
+      };
+    }
 
 -- If a canonical list ends below n, so do the intervals of its first ranks.
 firsts-below : (n low : ℕ) (runs : List Interval) → IsCanonicalFrom low runs → AllEndBelow n runs
@@ -76,10 +88,10 @@ firsts-below : (n low : ℕ) (runs : List Interval) → IsCanonicalFrom low runs
 firsts-below n low [] canonical below = All-nil (λ (run : Interval). run.last < n)
 firsts-below n low (run ∷ runs) canonical below =
     let P : Interval → Type 0 = λ each. each.last < n in
-    let order = canonical.1 in
+    let order = canonical.in_order in
     let end = All-head P run runs below in
     All-cons P (first_of run) (map first_of runs) (omega (arith, order, end))
-    (firsts-below n (run.last + 2) runs canonical.2 (All-tail P run runs below))
+    (firsts-below n (run.last + 2) runs canonical.rest (All-tail P run runs below))
 
 -- The lengths of the intervals of first ranks add up to the number of intervals.
 firsts-length : (runs : List Interval) → sum_by length_of (map first_of runs) ≡ length runs
@@ -105,17 +117,24 @@ begins-by selected (suc rank) before here past is at_rank at_before =
     ap (λ test. test && not (selected rank)) at_rank
     ∙ ap (λ test. here && not test) (ap selected same ∙ at_before)
 
+-- A canonical list is canonical from the first rank of its first interval.
+from-first : (low : ℕ) (run : Interval) (runs : List Interval) → IsCanonicalFrom low (run ∷ runs)
+    → IsCanonicalFrom run.first (run ∷ runs)
+from-first low run runs canonical =
+    record { starts = omega arith; in_order = canonical.in_order; rest = canonical.rest }
+
 -- A run begins at the first rank of the first interval.
 first-begins : (low : ℕ) (run : Interval) (runs : List Interval) (rank : ℕ)
     → IsCanonicalFrom low (run ∷ runs) → rank ≡ run.first → begins (members (run ∷ runs)) rank ≡ true
 first-begins low run runs zero canonical is =
-    let order = canonical.1 in
+    let order = canonical.in_order in
     members-head run runs zero (omega (arith, is)) (omega (arith, order, is))
 first-begins low run runs (suc rank) canonical is =
-    let order = canonical.1 in
+    let order = canonical.in_order in
     begins-by (members (run ∷ runs)) (suc rank) rank true false (omega arith)
     (members-head run runs (suc rank) (omega (arith, is)) (omega (arith, order, is)))
-    (members-below run.first (run ∷ runs) rank (omega arith, order, canonical.2) (omega (arith, is)))
+    (members-below run.first (run ∷ runs) rank (from-first low run runs canonical)
+    (omega (arith, is)))
 
 -- Past the first interval and the rank after it, runs begin where they begin without that interval.
 later-begins : (run : Interval) (runs : List Interval) (rank : ℕ) → run.last + 1 < rank
@@ -143,14 +162,15 @@ begins-members : (low : ℕ) (runs : List Interval) (rank : ℕ) → IsCanonical
 begins-members low [] zero canonical = refl
 begins-members low [] (suc rank) canonical = refl
 begins-members low (run ∷ runs) rank canonical =
-    let order = canonical.1 in
+    let order = canonical.in_order in
     let firsts = map first_of runs in
-    let apart = firsts-canonical (run.last + 2) runs canonical.2 in
+    let apart = firsts-canonical (run.last + 2) runs canonical.rest in
+    let from_first = from-first low run runs canonical in
     elim (cases_lt rank run.first) [
       | inl below ↦
-          begins-below run.first (run ∷ runs) rank (omega arith, order, canonical.2) below
+          begins-below run.first (run ∷ runs) rank from_first below
           ∙ sym (members-below run.first (first_of run ∷ firsts) rank
-          (firsts-canonical run.first (run ∷ runs) (omega arith, order, canonical.2)) below)
+          (firsts-canonical run.first (run ∷ runs) from_first) below)
       | inr from ↦ elim (cases_lt run.first rank) [
         | inr first ↦
             first-begins low run runs rank canonical (omega (arith, from, first))
@@ -159,7 +179,7 @@ begins-members low (run ∷ runs) rank canonical =
             let tail = members-tail (first_of run) firsts rank (inr past) in
             elim (cases_lt (run.last + 1) rank) [
               | inl after ↦
-                  later-begins run runs rank after ∙ begins-members (run.last + 2) runs rank canonical.2
+                  later-begins run runs rank after ∙ begins-members (run.last + 2) runs rank canonical.rest
                   ∙ sym tail
               | inr within ↦
                   inside-begins low run runs rank canonical past within
@@ -182,10 +202,10 @@ pub runs-begin : (n : ℕ) (selected : Selection) (runs : List Interval) → Are
 runs-begin n selected runs are =
     let canonical = runs-canonical n selected runs are in
     sym (firsts-length runs)
-    ∙ sym (count-members n 0 (map first_of runs) (firsts-canonical 0 runs canonical.0)
-    (firsts-below n 0 runs canonical.0 canonical.1))
+    ∙ sym (count-members n 0 (map first_of runs) (firsts-canonical 0 runs canonical.apart)
+    (firsts-below n 0 runs canonical.apart canonical.within))
     ∙ sym (count-agree n (begins (members runs)) (members (map first_of runs))
-    (λ rank below. begins-members 0 runs rank canonical.0))
+    (λ rank below. begins-members 0 runs rank canonical.apart))
     ∙ count-agree n (begins (members runs)) (begins selected)
     (begins-agree n (members runs) selected (runs-members n selected runs are))
 

@@ -15,31 +15,32 @@ pub canonical-starts : (low : ℕ) (runs : List Interval) → IsCanonicalFrom lo
     → All (λ (run : Interval). low ≤ run.first) runs
 canonical-starts low [] canonical = All-nil (λ (run : Interval). low ≤ run.first)
 canonical-starts low (run ∷ runs) canonical =
-    let ordered = canonical.1 in
-    let starts = canonical.0 in
+    let ordered = canonical.in_order in
+    let starts = canonical.starts in
     All-cons (λ (other : Interval). low ≤ other.first) run runs starts
     (All-weaker (λ (other : Interval). run.last + 2 ≤ other.first)
     (λ (other : Interval). low ≤ other.first) (λ other later. omega arith) runs
-    (canonical-starts (run.last + 2) runs canonical.2))
+    (canonical-starts (run.last + 2) runs canonical.rest))
 
 -- A list that is canonical from a rank is canonical from every lower rank.
 pub canonical-lower : (low lower : ℕ) (runs : List Interval) → lower ≤ low
     → IsCanonicalFrom low runs → IsCanonicalFrom lower runs
 canonical-lower low lower [] less canonical = tt
 canonical-lower low lower (run ∷ runs) less canonical =
-    let starts = canonical.0 in (omega arith, canonical.1, canonical.2)
+    let starts = canonical.starts in
+    record { starts = omega arith; in_order = canonical.in_order; rest = canonical.rest }
 
 -- The intervals of a canonical list ascend by their first ranks.
 pub canonical-ascending : (low : ℕ) (runs : List Interval) → IsCanonicalFrom low runs
     → AllPairs (λ (before after : Interval). before.first < after.first) runs
 canonical-ascending low [] canonical = λ m n d i j. absurd (omega arith)
 canonical-ascending low (run ∷ runs) canonical =
-    let ordered = canonical.1 in
+    let ordered = canonical.in_order in
     AllPairs-cons (λ (before after : Interval). before.first < after.first) run runs
     (All-weaker (λ (other : Interval). run.last + 2 ≤ other.first)
     (λ (other : Interval). run.first < other.first) (λ other later. omega arith) runs
-    (canonical-starts (run.last + 2) runs canonical.2))
-    (canonical-ascending (run.last + 2) runs canonical.2)
+    (canonical-starts (run.last + 2) runs canonical.rest))
+    (canonical-ascending (run.last + 2) runs canonical.rest)
 
 -- The lowest rank where a canonical list may continue after these intervals.
 abbrev pub next_start : ℕ → List Interval → ℕ
@@ -51,24 +52,28 @@ pub canonical-parts : (low : ℕ) (runs others : List Interval) → IsCanonicalF
     → IsCanonicalFrom low runs × IsCanonicalFrom (next_start low runs) others
 canonical-parts low [] others canonical = (tt, canonical)
 canonical-parts low (run ∷ runs) others canonical =
-    let parts = canonical-parts (run.last + 2) runs others canonical.2 in
-    ((canonical.0, canonical.1, parts.0), parts.1)
+    let parts = canonical-parts (run.last + 2) runs others canonical.rest in
+    (record { starts = canonical.starts; in_order = canonical.in_order; rest = parts.0 }, parts.1)
+
+-- The empty list is canonical.
+pub canonical-none : (n : ℕ) → IsCanonicalIn n []
+canonical-none n = record { apart = tt; within = All-nil (λ (run : Interval). run.last < n) }
 
 -- A prefix of a canonical list is canonical.
 pub canonical-front : (n : ℕ) (runs others : List Interval) → IsCanonicalIn n (runs ++ others)
     → IsCanonicalIn n runs
-canonical-front n runs others canonical = (
-  (canonical-parts 0 runs others canonical.0).0,
-  All-front (λ (run : Interval). run.last < n) runs others canonical.1,
-)
+canonical-front n runs others canonical = record {
+  apart = (canonical-parts 0 runs others canonical.apart).0;
+  within = All-front (λ (run : Interval). run.last < n) runs others canonical.within;
+}
 
 -- What follows the first interval of a canonical list is canonical.
 pub canonical-tail : (n : ℕ) (run : Interval) (runs : List Interval) → IsCanonicalIn n (run ∷ runs)
     → IsCanonicalIn n runs
-canonical-tail n run runs canonical = (
-  canonical-lower (run.last + 2) 0 runs (omega arith) canonical.0.2,
-  All-tail (λ (other : Interval). other.last < n) run runs canonical.1,
-)
+canonical-tail n run runs canonical = record {
+  apart = canonical-lower (run.last + 2) 0 runs (omega arith) canonical.apart.rest;
+  within = All-tail (λ (other : Interval). other.last < n) run runs canonical.within;
+}
 
 -- ---- two canonical lists with the same members are one list
 
@@ -107,24 +112,24 @@ pub canonical-unique : (low lower : ℕ) (runs others : List Interval) → IsCan
 canonical-unique low lower [] [] left right same = refl
 canonical-unique low lower [] (other ∷ others) left right same =
     absurd (not_both (members (other ∷ others) other.first)
-    (members-head other others other.first (omega arith) right.1) (sym (same other.first)))
+    (members-head other others other.first (omega arith) right.in_order) (sym (same other.first)))
 canonical-unique low lower (run ∷ runs) [] left right same =
     absurd (not_both (members (run ∷ runs) run.first)
-    (members-head run runs run.first (omega arith) left.1) (same run.first))
+    (members-head run runs run.first (omega arith) left.in_order) (same run.first))
 canonical-unique low lower (run ∷ runs) (other ∷ others) left right same =
-    let ordered = left.1 in
-    let order = right.1 in
+    let ordered = left.in_order in
+    let order = right.in_order in
     let back : (rank : ℕ) → members (other ∷ others) rank
     ≡ members (run ∷ runs) rank = λ rank. sym (same rank) in
     let first : run.first ≡ other.first = omega (
       arith,
-      unique-first run other runs others ordered right.2 same order,
-      unique-first other run others runs order left.2 back ordered,
+      unique-first run other runs others ordered right.rest same order,
+      unique-first other run others runs order left.rest back ordered,
     ) in
     let last : run.last ≡ other.last = omega (
       arith,
-      unique-last run other runs others first ordered left.2 same,
-      unique-last other run others runs (sym first) order right.2 back,
+      unique-last run other runs others first ordered left.rest same,
+      unique-last other run others runs (sym first) order right.rest back,
     ) in
     let head : run ≡ other = same_interval run other first last in
     let rest : (rank : ℕ) → members runs rank
@@ -133,10 +138,10 @@ canonical-unique low lower (run ∷ runs) (other ∷ others) left right same =
           sym (members-tail run runs rank (inr (omega arith))) ∙ same rank
           ∙ members-tail other others rank (inr (omega arith))
       | inr before ↦
-          members-below (run.last + 2) runs rank left.2 (omega arith)
-          ∙ sym (members-below (other.last + 2) others rank right.2 (omega arith))
+          members-below (run.last + 2) runs rank left.rest (omega arith)
+          ∙ sym (members-below (other.last + 2) others rank right.rest (omega arith))
     ] in
-    let tails = canonical-unique (run.last + 2) (other.last + 2) runs others left.2 right.2 rest in
+    let tails = canonical-unique (run.last + 2) (other.last + 2) runs others left.rest right.rest rest in
     λ i. head i ∷ tails i
 
 -- Lists that end within the type and agree there agree at every rank.

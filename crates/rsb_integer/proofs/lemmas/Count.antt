@@ -132,11 +132,11 @@ count-members n low [] canonical below = count-none n (members []) (λ rank here
 count-members n low (run ∷ runs) canonical below =
     let ends : run.last < n = All-head (λ (each : Interval). each.last < n) run runs below in
     let tail = All-tail (λ (each : Interval). each.last < n) run runs below in
-    let rest = count-members n (run.last + 2) runs canonical.2 tail in
+    let rest = count-members n (run.last + 2) runs canonical.rest tail in
     let both = count-union n (members (run ∷ runs)) (covers run) (members runs)
     (members-cons run runs)
     (λ rank here. let bounds = covers-bounds run rank here in
-    members-below (run.last + 2) runs rank canonical.2 (omega (arith, bounds.1))) in
+    members-below (run.last + 2) runs rank canonical.rest (omega (arith, bounds.1))) in
     let one = count-covers n run in
     let sum = sum_by-cons length_of run runs in
     omega arith

@@ -21,7 +21,8 @@ pub touching_ranges_join : AreRuns 256
     (union (members (from_to 1 3 ∷ [])) (covers (from_to 4 5))) (from_to 1 5 ∷ [])
 touching_ranges_join = runs-from_canonical 256
     (union (members (from_to 1 3 ∷ [])) (covers (from_to 4 5))) (from_to 1 5 ∷ [])
-    (lit≤ tt, lit≤ tt, tt) (below-cons 1 5 [] (lit< tt) below-nil)
+    (record { starts = lit≤ tt; in_order = lit≤ tt; rest = tt })
+    (below-cons 1 5 [] (lit< tt) below-nil)
     (λ rank below. grind (arith, nat_tests))
 
 -- {1..=1} with the reversed range 5..=3 added is unchanged.
@@ -29,13 +30,15 @@ pub reversed_adds_nothing : AreRuns 256
     (union (members (from_to 1 1 ∷ [])) (covers (from_to 5 3))) (from_to 1 1 ∷ [])
 reversed_adds_nothing = runs-from_canonical 256
     (union (members (from_to 1 1 ∷ [])) (covers (from_to 5 3))) (from_to 1 1 ∷ [])
-    (lit≤ tt, lit≤ tt, tt) (below-cons 1 1 [] (lit< tt) below-nil)
+    (record { starts = lit≤ tt; in_order = lit≤ tt; rest = tt })
+    (below-cons 1 1 [] (lit< tt) below-nil)
     (λ rank below. grind (arith, nat_tests))
 
 -- The complement of the empty set is 0..=255.
 pub complement_of_nothing : AreRuns 256 (complement (members [])) (from_to 0 255 ∷ [])
 complement_of_nothing = runs-from_canonical 256 (complement (members [])) (from_to 0 255 ∷ [])
-    (lit≤ tt, lit≤ tt, tt) (below-cons 0 255 [] (lit< tt) below-nil)
+    (record { starts = lit≤ tt; in_order = lit≤ tt; rest = tt })
+    (below-cons 0 255 [] (lit< tt) below-nil)
     (λ rank below. grind (arith, nat_tests))
 
 -- The complement of the universe is empty.
@@ -49,7 +52,15 @@ pub gaps_reach_both_ends : AreRuns 256 (complement (members (from_to 1 3 ∷ fro
 gaps_reach_both_ends = runs-from_canonical 256
     (complement (members (from_to 1 3 ∷ from_to 7 10 ∷ [])))
     (from_to 0 0 ∷ from_to 4 6 ∷ from_to 11 255 ∷ [])
-    (lit≤ tt, lit≤ tt, (lit≤ tt, lit≤ tt, (lit≤ tt, lit≤ tt, tt)))
+    (record {
+      starts = lit≤ tt;
+      in_order = lit≤ tt;
+      rest = record {
+        starts = lit≤ tt;
+        in_order = lit≤ tt;
+        rest = record { starts = lit≤ tt; in_order = lit≤ tt; rest = tt };
+      };
+    })
     (below-cons 0 0 (from_to 4 6 ∷ from_to 11 255 ∷ []) (lit< tt)
     (below-cons 4 6 (from_to 11 255 ∷ []) (lit< tt) (below-cons 11 255 [] (lit< tt) below-nil)))
     (λ rank below. grind (arith, nat_tests))

@@ -9,68 +9,77 @@ use Rattle.rsb_integer.proofs.lemmas.Members.{covers-bounds, covers-inside}
 -- Down from a selected rank there is a `first` such that all ranks between are selected. The one
 -- before `first`, if there is one, is not.
 run-first : (selected : Selection) (rank : ℕ) → selected rank ≡ true
-    → (first : ℕ) × (first ≤ rank)
-    × ((other : ℕ) → first ≤ other → other ≤ rank → selected other ≡ true)
-    × (0 < first → selected (first - 1) ≡ false)
-run-first selected zero here = (
-  0,
-  omega arith,
-  (λ other low high. let same : other ≡ 0 = omega arith in ap selected same ∙ here),
-  (λ above. absurd (omega arith)),
-)
+    → record {
+      first : ℕ;
+      up_to_rank : first ≤ rank;
+      whole : (other : ℕ) → first ≤ other → other ≤ rank → selected other ≡ true;
+      begins_here : 0 < first → selected (first - 1) ≡ false;
+    }
+run-first selected zero here = record {
+  first = 0;
+  up_to_rank = omega arith;
+  whole = λ other low high. let same : other ≡ 0 = omega arith in ap selected same ∙ here;
+  begins_here = λ above. absurd (omega arith);
+}
 run-first selected (suc rank) here = elim (true_or_false (selected rank)) [
   | inl before ↦
       let found = run-first selected rank before in
-      let within = found.1 in (
-        found.0,
-        omega arith,
-        (λ other low high. elim (cases_lt rank other) [
+      let within = found.up_to_rank in
+      record {
+        first = found.first;
+        up_to_rank = omega arith;
+        whole = λ other low high. elim (cases_lt rank other) [
           | inl last ↦ let same : other ≡ suc rank = omega arith in ap selected same ∙ here
-          | inr earlier ↦ found.2 other low earlier
-        ]),
-        found.3,
-      )
-  | inr gap ↦ (
-    suc rank,
-    omega arith,
-    (λ other low high. let same : other ≡ suc rank = omega arith in ap selected same ∙ here),
-    (λ above. let same : suc rank - 1 ≡ rank = omega arith in ap selected same ∙ gap),
-  )
+          | inr earlier ↦ found.whole other low earlier
+        ];
+        begins_here = found.begins_here;
+      }
+  | inr gap ↦ record {
+    first = suc rank;
+    up_to_rank = omega arith;
+    whole = λ other low high. let same : other ≡ suc rank = omega arith in ap selected same ∙ here;
+    begins_here = λ above. let same : suc rank - 1 ≡ rank = omega arith in ap selected same ∙ gap;
+  }
 ]
 
 -- Up from a selected rank there is a `last` such that all ranks between are selected. The next one,
 -- if it is in the type, is not. The type has `more` ranks above the rank.
 run-last : (selected : Selection) (n rank more : ℕ) → rank + more + 1 ≡ n → selected rank ≡ true
-    → (last : ℕ) × (rank ≤ last) × (last < n)
-    × ((other : ℕ) → rank ≤ other → other ≤ last → selected other ≡ true)
-    × (last + 1 < n → selected (last + 1) ≡ false)
-run-last selected n rank zero end here = (
-  rank,
-  omega arith,
-  omega arith,
-  (λ other low high. let same : other ≡ rank = omega arith in ap selected same ∙ here),
-  (λ above. absurd (omega arith)),
-)
+    → record {
+      last : ℕ;
+      from_rank : rank ≤ last;
+      in_type : last < n;
+      whole : (other : ℕ) → rank ≤ other → other ≤ last → selected other ≡ true;
+      ends_here : last + 1 < n → selected (last + 1) ≡ false;
+    }
+run-last selected n rank zero end here = record {
+  last = rank;
+  from_rank = omega arith;
+  in_type = omega arith;
+  whole = λ other low high. let same : other ≡ rank = omega arith in ap selected same ∙ here;
+  ends_here = λ above. absurd (omega arith);
+}
 run-last selected n rank (suc more) end here = elim (true_or_false (selected (rank + 1))) [
   | inl after ↦
       let found = run-last selected n (rank + 1) more (omega arith) after in
-      let within = found.1 in (
-        found.0,
-        omega arith,
-        found.2,
-        (λ other low high. elim (cases_lt rank other) [
-          | inl later ↦ found.3 other (omega arith) high
+      let within = found.from_rank in
+      record {
+        last = found.last;
+        from_rank = omega arith;
+        in_type = found.in_type;
+        whole = λ other low high. elim (cases_lt rank other) [
+          | inl later ↦ found.whole other (omega arith) high
           | inr first ↦ let same : other ≡ rank = omega arith in ap selected same ∙ here
-        ]),
-        found.4,
-      )
-  | inr gap ↦ (
-    rank,
-    omega arith,
-    omega arith,
-    (λ other low high. let same : other ≡ rank = omega arith in ap selected same ∙ here),
-    (λ above. gap),
-  )
+        ];
+        ends_here = found.ends_here;
+      }
+  | inr gap ↦ record {
+    last = rank;
+    from_rank = omega arith;
+    in_type = omega arith;
+    whole = λ other low high. let same : other ≡ rank = omega arith in ap selected same ∙ here;
+    ends_here = λ above. gap;
+  }
 ]
 
 -- A selected rank of the type lies in a maximal run.
@@ -79,19 +88,19 @@ pub maximal-around : (n : ℕ) (selected : Selection) (rank : ℕ) → rank < n 
 maximal-around n selected rank below here =
     let down = run-first selected rank here in
     let up = run-last selected n rank (n - rank - 1) (omega arith) here in
-    let low = down.1 in
-    let high = up.1 in
-    let run : Interval = record { first = down.0; last = up.0 } in
+    let low = down.up_to_rank in
+    let high = up.from_rank in
+    let run : Interval = record { first = down.first; last = up.last } in
     let maximal : IsMaximalRun n selected run = record {
       in_order = omega arith;
-      in_type = up.2;
+      in_type = up.in_type;
       whole = λ other within.
           let bounds = covers-bounds run other within in
           elim (cases_lt rank other) [
-            | inl above ↦ up.3 other (omega arith) bounds.1
-            | inr before ↦ down.2 other bounds.0 before
+            | inl above ↦ up.whole other (omega arith) bounds.1
+            | inr before ↦ down.whole other bounds.0 before
           ];
-      begins_here = down.3;
-      ends_here = up.4;
+      begins_here = down.begins_here;
+      ends_here = up.ends_here;
     } in
     (run, maximal, covers-inside run rank low high)

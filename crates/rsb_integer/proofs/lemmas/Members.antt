@@ -75,10 +75,10 @@ pub members-below : (low : ℕ) (runs : List Interval) (rank : ℕ)
     → IsCanonicalFrom low runs → rank < low → members runs rank ≡ false
 members-below low [] rank canonical below = refl
 members-below low (run ∷ runs) rank canonical below =
-    let starts = canonical.0 in
-    let ordered = canonical.1 in
+    let starts = canonical.starts in
+    let ordered = canonical.in_order in
     members-tail run runs rank (inl (omega arith))
-    ∙ members-below (run.last + 2) runs rank canonical.2 (omega arith)
+    ∙ members-below (run.last + 2) runs rank canonical.rest (omega arith)
 
 -- A member is covered by the first interval or is a member of the others.
 members-cases : (run : Interval) (runs : List Interval) (rank : ℕ) → members (run ∷ runs) rank

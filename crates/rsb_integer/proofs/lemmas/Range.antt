@@ -117,8 +117,8 @@ module _ {T : Type 0} (rank : T → ℕ) (n : ℕ)
       in
       let later = All-tail (λ (each : Interval). each.last < n) run (intervals_of rank ranges) below
       in
-      let first = same_range range other canonical.1 ends head in
-      let rest = same_ranges (run.last + 2) ranges others canonical.2 later tail in
+      let first = same_range range other canonical.in_order ends head in
+      let rest = same_ranges (run.last + 2) ranges others canonical.rest later tail in
       λ i. first i ∷ rest i
 
   -- Two canonical lists of ranges with the same members are the same list.

@@ -216,7 +216,8 @@ runs-of_interval : (n : ℕ) (run : Interval) → run.first ≤ run.last → run
     → AreRuns n (covers run) (run ∷ [])
 runs-of_interval n run ordered below =
     let P : Interval → Type 0 = λ each. each.last < n in
-    runs-from_canonical n (covers run) (run ∷ []) (omega arith, ordered, tt)
+    runs-from_canonical n (covers run) (run ∷ [])
+    (record { starts = omega arith; in_order = ordered; rest = tt })
     (All-cons P run [] below (All-nil P))
     (λ rank within. members-cons run [] rank ∙ or-false (covers run rank))
 
@@ -250,7 +251,8 @@ runs-of_everything zero = runs-from_canonical zero (λ rank. true) [] tt
     (All-nil (λ (run : Interval). run.last < zero)) (λ rank below. absurd (omega (arith, below)))
 runs-of_everything (suc n) =
     let whole : Interval = record { first = 0; last = n } in
-    runs-from_canonical (suc n) (λ rank. true) (whole ∷ []) (omega arith, omega arith, tt)
+    runs-from_canonical (suc n) (λ rank. true) (whole ∷ [])
+    (record { starts = omega arith; in_order = omega arith; rest = tt })
     (All-cons (λ (run : Interval). run.last < suc n) whole [] (omega arith)
     (All-nil (λ (run : Interval). run.last < suc n)))
     (λ rank below. members-head whole [] rank (omega arith) (omega (arith, below)))
@@ -341,8 +343,9 @@ at_least-begins (suc n) least sets positive =
     omega arith
 
 -- Whether all intervals of the list are non-empty and end below n.
-abbrev pub HaveRanks : ℕ → List Interval → Type 0
-HaveRanks n runs = All HasRanks runs × AllEndBelow n runs
+pub record HaveRanks (n : ℕ) (runs : List Interval) : Type 0 where
+  pub non_empty : All HasRanks runs
+  pub within : AllEndBelow n runs
 
 -- The runs of the members of a list begin at no more ranks than the list has intervals.
 begins-members_most : (n : ℕ) (runs : List Interval) → HaveRanks n runs
@@ -353,10 +356,12 @@ begins-members_most n [] have =
     omega arith
 begins-members_most n (run ∷ runs) have =
     let Below : Interval → Type 0 = λ each. each.last < n in
-    let ordered = All-head HasRanks run runs have.0 in
-    let below = All-head Below run runs have.1 in
-    let others = begins-members_most n runs
-    (All-tail HasRanks run runs have.0, All-tail Below run runs have.1) in
+    let ordered = All-head HasRanks run runs have.non_empty in
+    let below = All-head Below run runs have.within in
+    let others = begins-members_most n runs (record {
+      non_empty = All-tail HasRanks run runs have.non_empty;
+      within = All-tail Below run runs have.within;
+    }) in
     let own = runs-begin n (covers run) (run ∷ [])
     (runs-of_interval n run ordered below) in
     let both = union (covers run) (members runs) in

@@ -54,13 +54,13 @@ canonical-maximal n low [] canonical below = All-nil (IsMaximalRun n (members []
 canonical-maximal n low (run ∷ runs) canonical below =
     let tail = All-tail (λ (other : Interval). other.last < n) run runs below in
     All-cons (IsMaximalRun n (members (run ∷ runs))) run runs
-    (head-maximal n run runs canonical.1
+    (head-maximal n run runs canonical.in_order
     (All-head (λ (other : Interval). other.last < n) run runs below)
-    canonical.2)
+    canonical.rest)
     (All-both (λ (other : Interval). run.last + 2 ≤ other.first) (IsMaximalRun n (members runs))
     (IsMaximalRun n (members (run ∷ runs))) (tail-maximal n run runs) runs
-    (canonical-starts (run.last + 2) runs canonical.2)
-    (canonical-maximal n (run.last + 2) runs canonical.2 tail))
+    (canonical-starts (run.last + 2) runs canonical.rest)
+    (canonical-maximal n (run.last + 2) runs canonical.rest tail))
 
 -- A maximal run that starts within the first interval is that interval.
 maximal-head : (n : ℕ) (run : Interval) (runs : List Interval) (other : Interval)
@@ -124,8 +124,8 @@ canonical-complete n low [] other canonical below maximal =
     (maximal.whole other.first (covers-inside other other.first (omega arith) maximal.in_order))
     refl)
 canonical-complete n low (run ∷ runs) other canonical below maximal =
-    let starts = canonical.0 in
-    let ordered = canonical.1 in
+    let starts = canonical.starts in
+    let ordered = canonical.in_order in
     let ends : run.last < n = All-head (λ (each : Interval). each.last < n) run runs below in
     let tail = All-tail (λ (each : Interval). each.last < n) run runs below in
     let start : members (run ∷ runs) other.first ≡ true =
@@ -137,18 +137,18 @@ canonical-complete n low (run ∷ runs) other canonical below maximal =
           sym (members-tail run runs other.first (inr past)) ∙ start in
           let apart : other.first ≢ run.last + 1 = λ touching.
           not_both (members runs other.first) here
-          (members-below (run.last + 2) runs other.first canonical.2 (omega arith)) in
+          (members-below (run.last + 2) runs other.first canonical.rest (omega arith)) in
           Contains-tail run runs other
-          (canonical-complete n (run.last + 2) runs other canonical.2 tail
+          (canonical-complete n (run.last + 2) runs other canonical.rest tail
           (maximal-tail n run runs other (omega arith) maximal))
       | inr within ↦ elim (cases_lt other.first run.first) [
         | inl before ↦
             absurd (not_both (members (run ∷ runs) other.first) start
             (members-tail run runs other.first (inl before)
-            ∙ members-below (run.last + 2) runs other.first canonical.2 (omega arith)))
+            ∙ members-below (run.last + 2) runs other.first canonical.rest (omega arith)))
         | inr after ↦
             subst (λ (each : Interval). Contains (run ∷ runs) each)
-            (maximal-head n run runs other ordered ends canonical.2 maximal after within)
+            (maximal-head n run runs other ordered ends canonical.rest maximal after within)
             (Contains-head run runs)
       ]
     ]
@@ -213,24 +213,26 @@ ascending-canonical n selected low (run ∷ runs) ascending maximal starts =
     let first = All-head (IsMaximalRun n selected) run runs maximal in
     let others = All-tail (IsMaximalRun n selected) run runs maximal in
     let later = AllPairs-tail (λ (before after : Interval). before.first < after.first) run runs
-    ascending in (
-      All-head (λ (each : Interval). low ≤ each.first) run runs starts,
-      first.in_order,
-      ascending-canonical n selected (run.last + 2) runs later others
+    ascending in
+    record {
+      starts = All-head (λ (each : Interval). low ≤ each.first) run runs starts;
+      in_order = first.in_order;
+      rest = ascending-canonical n selected (run.last + 2) runs later others
           (λ k default within. maximal-apart n selected run (get_or runs k default) first
           (others k default within)
-          (ascending 0 (suc k) default (omega arith) (omega arith))),
-    )
+          (ascending 0 (suc k) default (omega arith) (omega arith)));
+    }
 
 -- The runs of a set are a canonical list within its type.
 pub runs-canonical : (n : ℕ) (selected : Selection) (runs : List Interval) → AreRuns n selected runs
     → IsCanonicalIn n runs
-runs-canonical n selected runs all = (
-  ascending-canonical n selected 0 runs all.ascending all.maximal (λ k default within. omega arith),
-  All-weaker (IsMaximalRun n selected) (λ (run : Interval). run.last < n)
+runs-canonical n selected runs all = record {
+  apart = ascending-canonical n selected 0 runs all.ascending all.maximal
+      (λ k default within. omega arith);
+  within = All-weaker (IsMaximalRun n selected) (λ (run : Interval). run.last < n)
       (λ run maximal. maximal.in_type)
-      runs all.maximal,
-)
+      runs all.maximal;
+}
 
 -- ---- canonical lists as runs
 
@@ -238,7 +240,7 @@ runs-canonical n selected runs all = (
 pub canonical-is_runs : (n : ℕ) (runs : List Interval)
     → IsCanonicalIn n runs ↔ AreRuns n (members runs) runs
 canonical-is_runs n runs = (
-  (λ canonical. canonical-runs n runs canonical.0 canonical.1),
+  (λ canonical. canonical-runs n runs canonical.apart canonical.within),
   (λ all. runs-canonical n (members runs) runs all),
 )
 
@@ -251,7 +253,8 @@ pub runs-same : (n : ℕ) (selected other : Selection) (runs others : List Inter
 runs-same n selected other runs others left right same =
     let canonical = runs-canonical n selected runs left in
     let other_canonical = runs-canonical n other others right in
-    canonical-same n runs others canonical.0 other_canonical.0 canonical.1 other_canonical.1
+    canonical-same n runs others canonical.apart other_canonical.apart canonical.within
+    other_canonical.within
     (λ rank below. runs-members n selected runs left rank below ∙ same rank below
     ∙ sym (runs-members n other others right rank below))
 

@@ -3,7 +3,7 @@
 ghost use Rattle.std.proofs.Common.{lit<, lit≤};
 ghost use Rattle.std.proofs.lemmas.Map.Lookups.{exact_unsigned};
 ghost use Rattle.rsb_integer.specs.Rank.{scalar_rank, scalar_value};
-ghost use Rattle.rsb_integer.specs.RankLaws.{scalar-ranks, scalar-in_order};
+ghost use Rattle.rsb_integer.specs.laws.Rank.{scalar-ranks, scalar-in_order};
 ghost use Rattle.rsb_integer.specs.Room.{have_room};
 
 use crate::integer::Integer;

@@ -5,7 +5,7 @@ ghost use Rattle.std.specs.Int.{w128};
 ghost use Rattle.std.proofs.Common.{lit<, lit≤};
 ghost use Rattle.std.proofs.lemmas.Map.Lookups.{exact_signed};
 ghost use Rattle.rsb_integer.specs.Rank.{signed_rank, signed_value};
-ghost use Rattle.rsb_integer.specs.RankLaws.{signed-ranks, signed-in_order};
+ghost use Rattle.rsb_integer.specs.laws.Rank.{signed-ranks, signed-in_order};
 ghost use Rattle.rsb_integer.specs.Room.{have_room};
 
 use crate::integer::Integer;

@@ -2,11 +2,11 @@
 
 ghost use Rattle.rsb_streams.specs.Results.{
   CanDrawBoth,
-  MakesComplement,
+  MakesComplementUndrawn,
   MakesDifference,
   MakesIntersection,
   MakesSymmetricDifference,
-  MakesUnion,
+  MakesUnionUndrawn,
 };
 
 use crate::gaps_in::GapsIn;
@@ -21,7 +21,7 @@ impl<'a, T: Integer, R: DrawDisjoint<T>> BitOr<R> for GapsIn<'a, T> {
 
     ghost can_bitor = { CanDrawBoth ⟦<GapsIn<'a, T> as Draw<T>>⟧ R.Draw };
 
-    ghost bitor_gives = { MakesUnion T.Integer.own ⟦<GapsIn<'a, T> as Draw<T>>⟧ R.Draw
+    ghost bitor_gives = { MakesUnionUndrawn T.Integer.own ⟦<GapsIn<'a, T> as Draw<T>>⟧ R.Draw
         ⟦<Union<T, GapsIn<'a, T>, R> as Draw<T>>⟧ };
 
     fn bitor(self, other: R) -> Self::Output {
@@ -74,7 +74,7 @@ impl<'a, T: Integer> Not for GapsIn<'a, T> {
 
     ghost can_not = { ⟦<GapsIn<'a, T> as Draw<T>>⟧.can_draw };
 
-    ghost not_gives = { MakesComplement T.Integer.own ⟦<GapsIn<'a, T> as Draw<T>>⟧
+    ghost not_gives = { MakesComplementUndrawn T.Integer.own ⟦<GapsIn<'a, T> as Draw<T>>⟧
         ⟦<NotIter<T, GapsIn<'a, T>> as Draw<T>>⟧ };
 
     fn not(self) -> Self::Output {

@@ -1,6 +1,6 @@
 use Rattle.std.proofs.Common.{◌≡◌, ◌∷◌, get_or, subst, sym}
 use Rattle.rsb_integer.specs.Enumerated.{place_in}
-use Rattle.rsb_integer.specs.EnumeratedLaws.{listed-ranks}
+use Rattle.rsb_integer.specs.laws.Enumerated.{listed-ranks}
 use Rattle.rsb_integer.proofs.element.element_at.Goals as goal
 
 -- The value at a place of the list has that place as its rank.

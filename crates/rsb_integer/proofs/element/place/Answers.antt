@@ -1,5 +1,5 @@
 use Rattle.std.proofs.Common.{arith, ◌∷◌}
-use Rattle.rsb_integer.specs.EnumeratedLaws.{place-below}
+use Rattle.rsb_integer.specs.laws.Enumerated.{place-below}
 use Rattle.rsb_integer.proofs.element.place.Goals as goal
 
 -- The place is in the list, because every value is in the list.

@@ -37,10 +37,10 @@ module _ {T : Type 0} (cmp : T → T → Ordering) (order : IsTotalOrder cmp) (r
       → AllByRecursion (λ key. cmp value key ≡ Less) (keys_of entries)
   later value low [] valued below ascending = tt
   later value low (entry ∷ entries) valued below ascending =
-      let from = ascending.0 in
+      let from = ascending.starts in
       let less : nat_cmp (rank value) (rank entry.0) ≡ Less = grind (arith, nat_tests, below, from) in (
-        in_order value entry.0 valued ascending.1 ∙ less,
-        later value (rank entry.0 + 1) entries valued (omega (arith, below, from)) ascending.2,
+        in_order value entry.0 valued ascending.in_type ∙ less,
+        later value (rank entry.0 + 1) entries valued (omega (arith, below, from)) ascending.rest,
       )
 
   -- So if the starts of entries ascend, their keys do.
@@ -49,8 +49,8 @@ module _ {T : Type 0} (cmp : T → T → Ordering) (order : IsTotalOrder cmp) (r
   unfolding IsStrictlySortedBy
   sorted-keys low [] ascending = tt
   sorted-keys low (entry ∷ entries) ascending = (
-    later entry.0 (rank entry.0 + 1) entries ascending.1 (omega arith) ascending.2,
-    sorted-keys (rank entry.0 + 1) entries ascending.2,
+    later entry.0 (rank entry.0 + 1) entries ascending.in_type (omega arith) ascending.rest,
+    sorted-keys (rank entry.0 + 1) entries ascending.rest,
   )
 
   -- Two lists of entries in order are the same if all look-ups have the same result in both.
@@ -67,7 +67,7 @@ module _ {T : Type 0} (cmp : T → T → Ordering) (order : IsTotalOrder cmp) (r
       (lookup_head (is_at (cmp entry.0)) entry entries (ap is_eq (tied_itself order entry.0))) refl
   same-entries low (entry ∷ entries) (other ∷ others) sorted ascending same =
       by (λ keys. same-entries (rank other.0 + 1) entries others
-      (sorted_tail cmp entry.0 (keys_of entries) sorted) ascending.2 (rest-same keys))
+      (sorted_tail cmp entry.0 (keys_of entries) sorted) ascending.rest (rest-same keys))
       (cmp entry.0 other.0) refl
     where
       -- The other list is in order too.

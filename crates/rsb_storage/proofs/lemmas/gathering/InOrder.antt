@@ -25,7 +25,7 @@ module _ {T : Type 0} (rank : T → ℕ) (n : ℕ) (all : List Interval) where
   -- Before the first interval.
   pub begun-first : (length : ℕ) → length ≡ 0 → IsBegun all None length
   begun-first length none = record {
-    whole = λ canonical below. (canonical, below);
+    whole = λ canonical below. record { apart = canonical; within = below };
     counted = omega (arith, none);
     within = omega (arith, none);
   }
@@ -64,7 +64,11 @@ module _ {T : Type 0} (rank : T → ℕ) (n : ℕ) (all : List Interval) where
         let counted = rw is at begun.counted in
         record {
           whole = λ canonical others. (rw is at begun.whole)
-              (past, some, subst (λ last. IsCanonicalFrom (last + 2) rest) ends canonical)
+              (record {
+                starts = past;
+                in_order = some;
+                rest = subst (λ last. IsCanonicalFrom (last + 2) rest) ends canonical;
+              })
               (All-cons (λ (each : Interval). each.last < n) run rest below others);
           counted = omega (arith, counted, sum, sum_by-cons length_of run rest);
           within = omega (arith, under, some, ends, sum);
@@ -80,6 +84,6 @@ pub runs_of-bounds : {T : Type 0} (rank : T → ℕ) (low : ℕ) (ranges : List 
     → runs_of rank (map bounds_of ranges) ≡ intervals_of rank ranges
 runs_of-bounds rank low [] canonical = refl
 runs_of-bounds rank low (range ∷ ranges) canonical =
-    let first = sym (interval_of-some rank range canonical.1) in
-    let rest = runs_of-bounds rank ((interval_of rank range).last + 2) ranges canonical.2 in
+    let first = sym (interval_of-some rank range canonical.in_order) in
+    let rest = runs_of-bounds rank ((interval_of rank range).last + 2) ranges canonical.rest in
     λ i. first i ∷ rest i

@@ -10,7 +10,7 @@ use Rattle.rsb_integer.proofs.lemmas.Members.{covers-bounds, covers-inside, memb
 use Rattle.rsb_storage.specs.Starts.{runs_past, StartsAscendFrom, IsGapEnd, IsLastBelow, NoneBelow, StartsWith}
 use Rattle.rsb_storage.specs.Set.{IsRunAround}
 use Rattle.rsb_storage.proofs.lemmas.runs.Apart.{contained-maximal, contained-members, last-gap, none-gap}
-use Rattle.rsb_storage.proofs.lemmas.runs.Starts.{ascending-contains, canonical-rises, starting-ascending, starting-contains, Contains-starting}
+use Rattle.rsb_storage.proofs.lemmas.runs.Starts.{ascending-contains, canonical-rises, starting-ascending, starting-contains, Contains-starting, ascending-raise}
 
 module _ (n : ℕ) (runs : List Interval) (canonical : IsCanonicalIn n runs) (point : ℕ) where
   -- A run of the list that has the rank is the run around it.
@@ -80,9 +80,9 @@ module _ (n : ℕ) (runs : List Interval) (canonical : IsCanonicalIn n runs) (po
                 let found = past-members rank more member in
                 let rises = subst (StartsAscendFrom n 0) first.parts
                 (starting-ascending (λ start. nat_lt point start) n 0 runs
-                (canonical-rises n 0 runs canonical.0 canonical.1)) in
+                (canonical-rises n 0 runs canonical.apart canonical.within)) in
                 let starts = ascending-contains n run.first (run ∷ first.rest) found.0
-                (omega arith, rises.1, rises.2)
+                (ascending-raise n 0 run.first run first.rest (omega arith) rises)
                 (subst (λ (items : List Interval). Contains items found.0) first.parts found.1) in
                 absurd (omega (arith, starts, found.2, less, ends))
           ];

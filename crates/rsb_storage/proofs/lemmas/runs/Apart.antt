@@ -11,7 +11,7 @@ use Rattle.rsb_integer.proofs.lemmas.List.{true_or_false, not_both, Contains-hea
 use Rattle.rsb_integer.proofs.lemmas.Members.{covers-bounds, covers-inside, members-cons, members-end, members-from, members-in, same_interval}
 use Rattle.rsb_integer.proofs.lemmas.Runs.{canonical-maximal}
 use Rattle.rsb_storage.specs.Starts.{runs_below, runs_past, runs_starting, with_run, without_start, StartsAscendFrom, LeavesApart, IsJoined, IsLastBelow, NoneBelow}
-use Rattle.rsb_storage.proofs.lemmas.runs.Starts.{canonical-rises, starting-canonical_in, starting-contains, with_run-first, with_run-later}
+use Rattle.rsb_storage.proofs.lemmas.runs.Starts.{canonical-rises, starting-canonical_in, starting-contains, with_run-first, with_run-later, ascending-raise}
 
 -- ---- members
 
@@ -60,14 +60,14 @@ with_run-members n low run (first ∷ runs) rank ascending apart =
     let all = members-cons first runs rank in
     elim (cases_lt first.first run.first) [
       | inl less ↦
-          let rest = with_run-members n (first.first + 1) run runs rank ascending.2
+          let rest = with_run-members n (first.first + 1) run runs rank ascending.rest
           (λ other found. apart other (Contains-tail first runs other found)) in
           let some = members-cons first (with_run run runs) rank in
           rw (with_run-later run first runs less) (grind (arith, all, some, rest))
       | inr reaches ↦ elim (cases_lt run.first first.first) [
         | inl more ↦
             let some = members-cons run (first ∷ runs) rank in
-            rw (with_run-first n run (first ∷ runs) (omega (arith, more), ascending.1, ascending.2))
+            rw (with_run-first n run (first ∷ runs) (ascending-raise n low (run.first + 1) first runs (omega (arith, more)) ascending))
             (grind (arith, all, some))
         | inr same ↦ absurd
             (apart first (Contains-head first runs) (omega (arith, reaches, same)))
@@ -81,7 +81,7 @@ module _ (n : ℕ) (runs : List Interval) (canonical : IsCanonicalIn n runs) whe
   pub contained-maximal : (run : Interval) → Contains runs run → IsMaximalRun n (members runs) run
   contained-maximal run found =
       All-contains (IsMaximalRun n (members runs)) runs run
-      (canonical-maximal n 0 runs canonical.0 canonical.1) found
+      (canonical-maximal n 0 runs canonical.apart canonical.within) found
 
   -- The ranks of a run of the list are members.
   pub contained-members : (run : Interval) (rank : ℕ) → Contains runs run → run.first ≤ rank
@@ -104,7 +104,7 @@ module _ (n : ℕ) (runs : List Interval) (canonical : IsCanonicalIn n runs) whe
     | inl within ↦
         ap (members runs) after
         ∙ (contained-maximal run found).ends_here (omega (arith, after, within))
-    | inr past ↦ members-end n runs rank canonical.1 past
+    | inr past ↦ members-end n runs rank canonical.within past
   ]
 
   -- If `run` and `other` share a rank, `run` starts no later.
@@ -190,57 +190,76 @@ joined-counted n fewer more run ends has apart =
     ∙ ap (λ number. count n fewer + number) (one ∙ omega (arith, ends))
 
 module _ (n : ℕ) (runs : List Interval) (canonical : IsCanonicalIn n runs) (run : Interval) where
-  -- Without one of its runs, a list differs only by that run, which touches no other.
-  pub without_start-joined : Contains runs run
-      → IsJoined n (without_start run.first runs) run runs
-  without_start-joined found =
-      let ordered = (contained-maximal n runs canonical run found).in_order in
-      let others : (rank : ℕ) → members (without_start run.first runs) rank
-      ≡ (members runs rank && not (covers run rank)) =
-      λ rank. starting-members (λ start. not (start == run.first)) runs rank (not (covers run rank))
-      (λ other also there. elim (true_or_false (covers run rank)) [
-        | inl here ↦
-            let same = ap (λ (each : Interval). each.first)
-            (contained-one n runs canonical run other rank found also here there) in
-            grind (arith, nat_tests, same, here)
-        | inr lacks ↦ elim (true_or_false (other.first == run.first)) [
-          | inl same ↦
-              let bounds = covers-bounds other rank there in
-              let meet : run.first ≡ other.first = grind (arith, nat_tests, same) in
-              let is = contained-one n runs canonical other run other.first also found
-              (covers-inside other other.first (omega arith) (omega (arith, bounds.0, bounds.1)))
-              (covers-inside run other.first (omega (arith, meet)) (omega (arith, meet, ordered))) in
-              absurd (not_both (covers run rank) (ap (λ each. covers each rank) (sym is) ∙ there) lacks)
-          | inr differs ↦ rw (differs, lacks) refl
+  -- ---- a run of the list
+  module _ (found : Contains runs run) where
+    -- It is non-empty.
+    ordered-run : run.first ≤ run.last
+    ordered-run = (contained-maximal n runs canonical run found).in_order
+
+    -- Another run that contains a rank starts elsewhere, exactly if `run` lacks that rank.
+    starts-elsewhere : (rank : ℕ) (other : Interval) → Contains runs other
+        → covers other rank ≡ true → not (other.first == run.first) ≡ not (covers run rank)
+    starts-elsewhere rank other also there = elim (true_or_false (covers run rank)) [
+      | inl here ↦
+          let same = ap (λ (each : Interval). each.first)
+          (contained-one n runs canonical run other rank found also here there) in
+          grind (arith, nat_tests, same, here)
+      | inr lacks ↦ elim (true_or_false (other.first == run.first)) [
+        | inl same ↦
+            let ordered = ordered-run in
+            let bounds = covers-bounds other rank there in
+            let meet : run.first ≡ other.first = grind (arith, nat_tests, same) in
+            let is = contained-one n runs canonical other run other.first also found
+            (covers-inside other other.first (omega arith) (omega (arith, bounds.0, bounds.1)))
+            (covers-inside run other.first (omega (arith, meet)) (omega (arith, meet, ordered))) in
+            absurd (not_both (covers run rank) (ap (λ each. covers each rank) (sym is) ∙ there) lacks)
+        | inr differs ↦ rw (differs, lacks) refl
+      ]
+    ]
+
+    -- The other runs have the members that `run` lacks.
+    others-members : (rank : ℕ) → members (without_start run.first runs) rank
+        ≡ (members runs rank && not (covers run rank))
+    others-members rank =
+        starting-members (λ start. not (start == run.first)) runs rank (not (covers run rank))
+        (starts-elsewhere rank)
+
+    -- With the ranks of `run`, these are all members.
+    all-members : (rank : ℕ) → members runs rank
+        ≡ (members (without_start run.first runs) rank || covers run rank)
+    all-members rank =
+        let rest = others-members rank in
+        elim (true_or_false (covers run rank)) [
+          | inl here ↦
+              let some = members-from runs run rank found here in grind (arith, some, rest, here)
+          | inr lacks ↦ grind (arith, rest, lacks)
         ]
-      ]) in
-      let has : (rank : ℕ) → members runs rank
-      ≡ (members (without_start run.first runs) rank || covers run rank) =
-      λ rank. elim (true_or_false (covers run rank)) [
-        | inl here ↦ let some = members-from runs run rank found here in let rest = others rank in
-            grind (arith, some, rest, here)
-        | inr lacks ↦ let rest = others rank in grind (arith, rest, lacks)
-      ] in
-      record {
-        fewer_canonical = starting-canonical_in (λ start. not (start == run.first)) n runs canonical;
-        more_canonical = canonical;
-        free = λ rank from to. others rank
-            ∙ elim (cases_lt rank run.first) [
-              | inl less ↦
-                  rw (contained-before n runs canonical run rank found (omega (arith, from, less))) refl
-              | inr starts ↦ elim (cases_lt run.last rank) [
-                | inl more ↦
-                    rw (contained-after n runs canonical run rank found (omega (arith, to, more))) refl
-                | inr within ↦
-                    let here = covers-inside run rank starts within in
-                    grind (arith, here)
-              ]
-            ];
-        has = has;
-        counted = joined-counted n (members (without_start run.first runs)) (members runs) run
-            (contained-maximal n runs canonical run found).in_type has
-            (λ rank here. let rest = others rank in grind (arith, rest, here));
-      }
+
+    -- None of the other runs has a rank of `run` or one next to it.
+    leaves-apart : LeavesApart (without_start run.first runs) run.first run.last
+    leaves-apart rank from to =
+        others-members rank
+        ∙ elim (cases_lt rank run.first) [
+          | inl less ↦
+              rw (contained-before n runs canonical run rank found (omega (arith, from, less))) refl
+          | inr starts ↦ elim (cases_lt run.last rank) [
+            | inl more ↦
+                rw (contained-after n runs canonical run rank found (omega (arith, to, more))) refl
+            | inr within ↦ let here = covers-inside run rank starts within in grind (arith, here)
+          ]
+        ]
+
+    -- Without one of its runs, a list differs only by that run, which touches no other.
+    pub without_start-joined : IsJoined n (without_start run.first runs) run runs
+    without_start-joined = record {
+      fewer_canonical = starting-canonical_in (λ start. not (start == run.first)) n runs canonical;
+      more_canonical = canonical;
+      free = leaves-apart;
+      has = all-members;
+      counted = joined-counted n (members (without_start run.first runs)) (members runs) run
+          (contained-maximal n runs canonical run found).in_type all-members
+          (λ rank here. let rest = others-members rank in grind (arith, rest, here));
+    }
 
   module _ (ordered : run.first ≤ run.last) (ends : run.last < n)
       (free : LeavesApart runs run.first run.last) where
@@ -272,23 +291,32 @@ module _ (n : ℕ) (runs : List Interval) (canonical : IsCanonicalIn n runs) (ru
         → ((other : Interval) → Contains items other
         → (other.last + 2 ≤ run.first) ⊎ (run.last + 2 ≤ other.first))
         → IsCanonicalFrom low (with_run run items)
-    free-canonical low [] rises within from apart = (from, ordered, tt)
+    free-canonical low [] rises within from apart = record {
+      starts = from;
+      in_order = ordered;
+      rest = tt;
+    }
     free-canonical low (first ∷ items) rises within from apart =
-        let order = rises.1 in
+        let order = rises.in_order in
         let ascending = canonical-rises n low (first ∷ items) rises within in
         elim (apart first (Contains-head first items)) [
           | inl before ↦
-              rw (with_run-later run first items (omega (arith, before, order))) (
-                rises.0,
-                rises.1,
-                free-canonical (first.last + 2) items rises.2
+              rw (with_run-later run first items (omega (arith, before, order))) (record {
+                starts = rises.starts;
+                in_order = rises.in_order;
+                rest = free-canonical (first.last + 2) items rises.rest
                     (All-tail (λ (each : Interval). each.last < n) first items within) before
-                    (λ other found. apart other (Contains-tail first items other found)),
-              )
+                    (λ other found. apart other (Contains-tail first items other found));
+              })
           | inr later ↦
               rw (with_run-first n run (first ∷ items)
-              (omega (arith, later, ordered), ascending.1, ascending.2))
-              (from, ordered, (later, rises.1, rises.2))
+              (ascending-raise n low (run.first + 1) first items (omega (arith, later, ordered))
+              ascending))
+              (record {
+                starts = from;
+                in_order = ordered;
+                rest = record { starts = later; in_order = rises.in_order; rest = rises.rest };
+              })
         ]
 
     -- Inserting `run` changes the list only by this run, which touches no other.
@@ -297,7 +325,7 @@ module _ (n : ℕ) (runs : List Interval) (canonical : IsCanonicalIn n runs) (ru
         let has : (rank : ℕ) → members (with_run run runs) rank
         ≡ (members runs rank || covers run rank) =
         λ rank. with_run-members n 0 run runs rank
-        (canonical-rises n 0 runs canonical.0 canonical.1)
+        (canonical-rises n 0 runs canonical.apart canonical.within)
         (λ other found same. elim (free-apart other found) [
           | inl before ↦
               let order = (contained-maximal n runs canonical other found).in_order in
@@ -306,16 +334,16 @@ module _ (n : ℕ) (runs : List Interval) (canonical : IsCanonicalIn n runs) (ru
         ]) in
         record {
           fewer_canonical = canonical;
-          more_canonical = (
-            free-canonical 0 runs canonical.0 canonical.1 (omega arith) free-apart,
-            All-append (λ (each : Interval). each.last < n) (runs_below run.first runs)
+          more_canonical = record {
+            apart = free-canonical 0 runs canonical.apart canonical.within (omega arith) free-apart;
+            within = All-append (λ (each : Interval). each.last < n) (runs_below run.first runs)
                 (run ∷ runs_past run.first runs)
                 (All-filter (λ (each : Interval). nat_lt each.first run.first)
-                (λ (each : Interval). each.last < n) runs canonical.1)
+                (λ (each : Interval). each.last < n) runs canonical.within)
                 (All-cons (λ (each : Interval). each.last < n) run (runs_past run.first runs) ends
                 (All-filter (λ (each : Interval). nat_lt run.first each.first)
-                (λ (each : Interval). each.last < n) runs canonical.1)),
-          );
+                (λ (each : Interval). each.last < n) runs canonical.within));
+          };
           free = free;
           has = has;
           counted = joined-counted n (members runs) (members (with_run run runs)) run ends has

@@ -13,7 +13,7 @@ use Rattle.rsb_integer.specs.Runs.{Interval}
 use Rattle.rsb_integer.proofs.lemmas.List.{Contains-cases}
 use Rattle.rsb_storage.specs.Storage.{entry_run, runs_of}
 use Rattle.rsb_storage.specs.Starts.{runs_below, runs_past, runs_starting, starting_from, with_run, without_start, StartsAscendFrom}
-use Rattle.rsb_storage.proofs.lemmas.runs.Starts.{ascending-all, ascending-contains, with_run-first, with_run-here, with_run-later}
+use Rattle.rsb_storage.proofs.lemmas.runs.Starts.{ascending-all, ascending-contains, ascending-raise, with_run-first, with_run-here, with_run-later}
 
 -- If a test of keys agrees with a test of their ranks, the entries whose keys pass have the runs
 -- whose starts pass.
@@ -25,7 +25,7 @@ pub runs-filter : {T : Type 0} (rank : T → ℕ) (n : ℕ) (keeps : T → Bool)
 runs-filter rank n keeps test low [] same ascending = refl
 runs-filter {T} rank n keeps test low (entry ∷ entries) same ascending =
     by (test (rank entry.0)) refl
-    (runs-filter rank n keeps test (rank entry.0 + 1) entries same ascending.2)
+    (runs-filter rank n keeps test (rank entry.0 + 1) entries same ascending.rest)
   where
     by : (passes : Bool) → test (rank entry.0) ≡ passes
         → runs_of rank (filter (λ (each : T × T). keeps each.0) entries)
@@ -33,9 +33,9 @@ runs-filter {T} rank n keeps test low (entry ∷ entries) same ascending =
         → runs_of rank (filter (λ (each : T × T). keeps each.0) (entry ∷ entries))
         ≡ runs_starting test (runs_of rank (entry ∷ entries))
     by true is rest =
-        rw (same entry.0 ascending.1, is)
+        rw (same entry.0 ascending.in_type, is)
         (ap (λ (runs : List Interval). entry_run rank entry ∷ runs) rest)
-    by false is rest = rw (same entry.0 ascending.1, is) rest
+    by false is rest = rw (same entry.0 ascending.in_type, is) rest
 
 module _ {T : Type 0} (cmp : T → T → Ordering) (rank : T → ℕ) (n : ℕ)
     (in_order : (x y : T) → rank x < n → rank y < n → cmp x y ≡ nat_cmp (rank x) (rank y)) where
@@ -71,20 +71,21 @@ module _ {T : Type 0} (cmp : T → T → Ordering) (rank : T → ℕ) (n : ℕ)
       let run = entry_run rank (key, end) in
       let first = entry_run rank entry in
       let runs = runs_of rank entries in
-      elim (order-cases key entry.0 known ascending.1) [
+      elim (order-cases key entry.0 known ascending.in_type) [
         | inl less ↦
             let below = less.0 in
             rw less.1
-            (sym (with_run-first n run (first ∷ runs) (omega (arith, below), ascending.1, ascending.2)))
+            (sym (with_run-first n run (first ∷ runs)
+            (ascending-raise n low (run.first + 1) first runs (omega (arith, below)) ascending)))
         | inr (inl same) ↦
             rw same.1
             ((λ i. (record { first = sym same.0 i; last = rank end }) ∷ runs)
             ∙ sym (with_run-here run first runs same.0 ∙ with_run-first n run runs
-            (rw same.0 ascending.2)))
+            (rw same.0 ascending.rest)))
         | inr (inr more) ↦
             rw more.1
             (ap (λ (rest : List Interval). first ∷ rest)
-            (runs-insert_entry key end known (rank entry.0 + 1) entries ascending.2)
+            (runs-insert_entry key end known (rank entry.0 + 1) entries ascending.rest)
             ∙ sym (with_run-later run first runs more.0))
       ]
 
@@ -96,8 +97,8 @@ module _ {T : Type 0} (cmp : T → T → Ordering) (rank : T → ℕ) (n : ℕ)
   runs-remove_entry key known low [] ascending = refl
   runs-remove_entry key known low (entry ∷ entries) ascending =
       let rest = ap (λ (runs : List Interval). entry_run rank entry ∷ runs)
-      (runs-remove_entry key known (rank entry.0 + 1) entries ascending.2) in
-      elim (order-cases key entry.0 known ascending.1) [
+      (runs-remove_entry key known (rank entry.0 + 1) entries ascending.rest) in
+      elim (order-cases key entry.0 known ascending.in_type) [
         | inl less ↦
             let differs : (rank entry.0 == rank key) ≡ false = grind (arith, nat_tests, less.0) in
             rw (less.1, differs) rest
@@ -105,7 +106,7 @@ module _ {T : Type 0} (cmp : T → T → Ordering) (rank : T → ℕ) (n : ℕ)
             let meets : (rank entry.0 == rank key) ≡ true = grind (arith, nat_tests, same.0) in
             rw (same.1, meets)
             (sym (ascending-all (λ start. not (start == rank key)) n (rank entry.0 + 1)
-            (runs_of rank entries) ascending.2
+            (runs_of rank entries) ascending.rest
             (λ start from. grind (arith, nat_tests, from, same.0))))
         | inr (inr more) ↦
             let differs : (rank entry.0 == rank key) ≡ false = grind (arith, nat_tests, more.0) in
@@ -122,8 +123,8 @@ module _ {T : Type 0} (cmp : T → T → Ordering) (rank : T → ℕ) (n : ℕ)
       let first = entry_run rank entry in
       let runs = runs_of rank entries in
       let from = ascending-contains n (rank entry.0) (first ∷ runs) run
-      (omega arith, ascending.1, ascending.2) found in
-      elim (order-cases key entry.0 known ascending.1) [
+      (ascending-raise n low (rank entry.0) first runs (omega arith) ascending) found in
+      elim (order-cases key entry.0 known ascending.in_type) [
         | inl less ↦ let below = less.0 in omega (arith, below, from, starts)
         | inr (inl same) ↦
             let is : Some entry.1 ≡ None = ap (λ order. cond (is_eq order) (Some entry.1)
@@ -134,7 +135,7 @@ module _ {T : Type 0} (cmp : T → T → Ordering) (rank : T → ℕ) (n : ℕ)
               let meets = ap (λ (each : Interval). each.first) is in
               let above = more.0 in omega (arith, meets, above, starts)
           | inr later ↦
-              lookup-none key known (rank entry.0 + 1) entries ascending.2
+              lookup-none key known (rank entry.0 + 1) entries ascending.rest
               (ap (λ order. cond (is_eq order) (Some entry.1) (lookup (is_at (cmp key)) entries))
               (sym more.1) ∙ absent) run later starts
         ]

@@ -88,9 +88,9 @@ pub starting-canonical : (test : ℕ → Bool) (low : ℕ) (runs : List Interval
     → IsCanonicalFrom low (runs_starting test runs)
 starting-canonical test low [] canonical = tt
 starting-canonical test low (run ∷ runs) canonical =
-    let starts = canonical.0 in
-    let ordered = canonical.1 in
-    let rest = starting-canonical test (run.last + 2) runs canonical.2 in
+    let starts = canonical.starts in
+    let ordered = canonical.in_order in
+    let rest = starting-canonical test (run.last + 2) runs canonical.rest in
     by (test run.first) refl rest
     (canonical-lower (run.last + 2) low (runs_starting test runs) (omega (arith, starts, ordered))
     rest)
@@ -99,47 +99,60 @@ starting-canonical test low (run ∷ runs) canonical =
         → IsCanonicalFrom (run.last + 2) (runs_starting test runs)
         → IsCanonicalFrom low (runs_starting test runs)
         → IsCanonicalFrom low (runs_starting test (run ∷ runs))
-    by true is rest all = rw is (canonical.0, canonical.1, rest)
+    by true is rest all = rw is
+        (record { starts = canonical.starts; in_order = canonical.in_order; rest = rest })
     by false is rest all = rw is all
 
 -- The same holds within a type.
 pub starting-canonical_in : (test : ℕ → Bool) (n : ℕ) (runs : List Interval) → IsCanonicalIn n runs
     → IsCanonicalIn n (runs_starting test runs)
-starting-canonical_in test n runs canonical = (
-  starting-canonical test 0 runs canonical.0,
-  All-filter (λ (run : Interval). test run.first) (λ (run : Interval). run.last < n) runs canonical.1,
-)
+starting-canonical_in test n runs canonical = record {
+  apart = starting-canonical test 0 runs canonical.apart;
+  within = All-filter (λ (run : Interval). test run.first) (λ (run : Interval). run.last < n) runs
+      canonical.within;
+}
 
 -- ---- starts that ascend
+
+-- Starts that ascend do so from each rank up to the first one.
+pub ascending-raise : (n low from : ℕ) (run : Interval) (runs : List Interval) → from ≤ run.first
+    → StartsAscendFrom n low (run ∷ runs) → StartsAscendFrom n from (run ∷ runs)
+ascending-raise n low from run runs starts ascending = record {
+  starts = starts;
+  in_type = ascending.in_type;
+  rest = ascending.rest;
+}
 
 -- Starts that ascend from `low` on also ascend from a lower rank on.
 pub ascending-lower : (n low lower : ℕ) (runs : List Interval) → lower ≤ low
     → StartsAscendFrom n low runs → StartsAscendFrom n lower runs
 ascending-lower n low lower [] less ascending = tt
 ascending-lower n low lower (run ∷ runs) less ascending =
-    let starts = ascending.0 in (omega (arith, starts, less), ascending.1, ascending.2)
+    let starts = ascending.starts in
+    ascending-raise n low lower run runs (omega (arith, starts, less)) ascending
 
 -- The starts of canonical runs ascend.
 pub canonical-rises : (n low : ℕ) (runs : List Interval) → IsCanonicalFrom low runs
     → AllEndBelow n runs → StartsAscendFrom n low runs
 canonical-rises n low [] canonical ends = tt
 canonical-rises n low (run ∷ runs) canonical ends =
-    let ordered = canonical.1 in
+    let ordered = canonical.in_order in
     let first = All-head (λ (each : Interval). each.last < n) run runs ends in
-    let rest = canonical-rises n (run.last + 2) runs canonical.2
-    (All-tail (λ (each : Interval). each.last < n) run runs ends) in (
-      canonical.0,
-      omega (arith, ordered, first),
-      ascending-lower n (run.last + 2) (run.first + 1) runs (omega (arith, ordered)) rest,
-    )
+    let rest = canonical-rises n (run.last + 2) runs canonical.rest
+    (All-tail (λ (each : Interval). each.last < n) run runs ends) in
+    record {
+      starts = canonical.starts;
+      in_type = omega (arith, ordered, first);
+      rest = ascending-lower n (run.last + 2) (run.first + 1) runs (omega (arith, ordered)) rest;
+    }
 
 -- If the starts of a list ascend, so do those of the runs that pass a test.
 pub starting-ascending : (test : ℕ → Bool) (n low : ℕ) (runs : List Interval)
     → StartsAscendFrom n low runs → StartsAscendFrom n low (runs_starting test runs)
 starting-ascending test n low [] ascending = tt
 starting-ascending test n low (run ∷ runs) ascending =
-    let starts = ascending.0 in
-    let rest = starting-ascending test n (run.first + 1) runs ascending.2 in
+    let starts = ascending.starts in
+    let rest = starting-ascending test n (run.first + 1) runs ascending.rest in
     by (test run.first) refl rest
     (ascending-lower n (run.first + 1) low (runs_starting test runs) (omega (arith, starts)) rest)
   where
@@ -147,7 +160,8 @@ starting-ascending test n low (run ∷ runs) ascending =
         → StartsAscendFrom n (run.first + 1) (runs_starting test runs)
         → StartsAscendFrom n low (runs_starting test runs)
         → StartsAscendFrom n low (runs_starting test (run ∷ runs))
-    by true is rest all = rw is (ascending.0, ascending.1, rest)
+    by true is rest all = rw is
+        (record { starts = ascending.starts; in_type = ascending.in_type; rest = rest })
     by false is rest all = rw is all
 
 -- If all ranks from `low` on pass a test, the runs that pass are the whole list.
@@ -155,30 +169,30 @@ pub ascending-all : (test : ℕ → Bool) (n low : ℕ) (runs : List Interval) �
     → ((start : ℕ) → low ≤ start → test start ≡ true) → runs_starting test runs ≡ runs
 ascending-all test n low [] ascending passes = refl
 ascending-all test n low (run ∷ runs) ascending passes =
-    rw (passes run.first ascending.0)
+    rw (passes run.first ascending.starts)
     (ap (λ (rest : List Interval). run ∷ rest)
-    (ascending-all test n (run.first + 1) runs ascending.2
-    (λ start from. passes start (omega (arith, from, ascending.0)))))
+    (ascending-all test n (run.first + 1) runs ascending.rest
+    (λ start from. passes start (omega (arith, from, ascending.starts)))))
 
 -- If all of those ranks fail it, no run passes.
 pub ascending-none : (test : ℕ → Bool) (n low : ℕ) (runs : List Interval) → StartsAscendFrom n low runs
     → ((start : ℕ) → low ≤ start → test start ≡ false) → runs_starting test runs ≡ []
 ascending-none test n low [] ascending fails = refl
 ascending-none test n low (run ∷ runs) ascending fails =
-    rw (fails run.first ascending.0)
-    (ascending-none test n (run.first + 1) runs ascending.2
-    (λ start from. fails start (omega (arith, from, ascending.0))))
+    rw (fails run.first ascending.starts)
+    (ascending-none test n (run.first + 1) runs ascending.rest
+    (λ start from. fails start (omega (arith, from, ascending.starts))))
 
 -- Each run starts at `low` or later.
 pub ascending-contains : (n low : ℕ) (runs : List Interval) (run : Interval) → StartsAscendFrom n low runs
     → Contains runs run → low ≤ run.first
 ascending-contains n low [] run ascending found = let none = found.1 in absurd (omega arith)
 ascending-contains n low (first ∷ runs) run ascending found =
-    let starts = ascending.0 in
+    let starts = ascending.starts in
     elim (Contains-cases first runs run found) [
       | inl same ↦ subst (λ (each : Interval). low ≤ each.first) same starts
       | inr later ↦
-          let more = ascending-contains n (first.first + 1) runs run ascending.2 later in
+          let more = ascending-contains n (first.first + 1) runs run ascending.rest later in
           omega (arith, starts, more)
     ]
 
@@ -189,10 +203,10 @@ ascending-before n low [] last run ascending found = let none = found.1 in absur
 ascending-before n low (first ∷ front) last run ascending found =
     elim (Contains-cases first front run found) [
       | inl same ↦
-          let later = ascending-contains n (first.first + 1) (front ++ last ∷ []) last ascending.2
+          let later = ascending-contains n (first.first + 1) (front ++ last ∷ []) last ascending.rest
           (Contains-append_right front (last ∷ []) last (Contains-head last [])) in
           subst (λ (each : Interval). each.first < last.first) same (omega (arith, later))
-      | inr later ↦ ascending-before n (first.first + 1) front last run ascending.2 later
+      | inr later ↦ ascending-before n (first.first + 1) front last run ascending.rest later
     ]
 
 -- The runs that start below the last run are all the runs before it.
@@ -207,7 +221,7 @@ below-push n low (first ∷ front) last ascending =
     (Contains-head first front) in
     let is_below : nat_lt first.first last.first ≡ true = grind (arith, nat_tests, later) in
     rw is_below (ap (λ (rest : List Interval). first ∷ rest)
-    (below-push n (first.first + 1) front last ascending.2))
+    (below-push n (first.first + 1) front last ascending.rest))
 
 -- The last of the runs that start below a bound is as `IsLastBelow` states.
 pub EndsWith-last : (n : ℕ) (bound : ℕ) (runs : List Interval) (run : Interval)
@@ -276,26 +290,33 @@ with_run-here run first runs same =
 -- After the insertion, the starts still ascend.
 pub with_run-ascending : (n low : ℕ) (run : Interval) (runs : List Interval) → StartsAscendFrom n low runs
     → low ≤ run.first → run.first < n → StartsAscendFrom n low (with_run run runs)
-with_run-ascending n low run [] ascending from value = (from, value, tt)
+with_run-ascending n low run [] ascending from value = record {
+  starts = from;
+  in_type = value;
+  rest = tt;
+}
 with_run-ascending n low run (first ∷ runs) ascending from value =
-    let starts = ascending.0 in
+    let starts = ascending.starts in
     elim (cases_lt first.first run.first) [
       | inl less ↦
-          rw (with_run-later run first runs less) (
-            ascending.0,
-            ascending.1,
-            with_run-ascending n (first.first + 1) run runs ascending.2 (omega (arith, less)) value,
-          )
+          rw (with_run-later run first runs less) (record {
+            starts = ascending.starts;
+            in_type = ascending.in_type;
+            rest = with_run-ascending n (first.first + 1) run runs ascending.rest
+                (omega (arith, less)) value;
+          })
       | inr reaches ↦ elim (cases_lt run.first first.first) [
         | inl more ↦
-            rw (with_run-first n run (first ∷ runs) (omega (arith, more), ascending.1, ascending.2))
-            (from, value, (omega (arith, more), ascending.1, ascending.2))
+            let past = ascending-raise n low (run.first + 1) first runs (omega (arith, more))
+            ascending in
+            rw (with_run-first n run (first ∷ runs) past)
+            (record { starts = from; in_type = value; rest = past })
         | inr less ↦
             let same : run.first ≡ first.first = omega (arith, reaches, less) in
             let rest = ascending-lower n (first.first + 1) (run.first + 1) runs (omega (arith, same))
-            ascending.2 in
+            ascending.rest in
             rw (with_run-here run first runs same, with_run-first n run runs rest)
-            (from, value, rest)
+            (record { starts = from; in_type = value; rest = rest })
       ]
     ]
 
@@ -356,18 +377,18 @@ without_start-with_run n low run (first ∷ runs) ascending elsewhere =
           let differs : (first.first == run.first) ≡ false = grind (arith, nat_tests, less) in
           rw (with_run-later run first runs less, differs)
           (ap (λ (rest : List Interval). first ∷ rest)
-          (without_start-with_run n (first.first + 1) run runs ascending.2
+          (without_start-with_run n (first.first + 1) run runs ascending.rest
           (λ other found. elsewhere other (Contains-tail first runs other found))))
       | inr reaches ↦ elim (cases_lt run.first first.first) [
         | inl more ↦
             let same : (run.first == run.first) ≡ true = grind (arith, nat_tests) in
             rw (
               with_run-first n run (first ∷ runs)
-                  (omega (arith, more), ascending.1, ascending.2),
+                  (ascending-raise n low (run.first + 1) first runs (omega (arith, more)) ascending),
               same,
             )
             (ascending-all (λ start. not (start == run.first)) n first.first (first ∷ runs)
-            (omega arith, ascending.1, ascending.2)
+            (ascending-raise n low first.first first runs (omega arith) ascending)
             (λ start from. grind (arith, nat_tests, from, more)))
         | inr less ↦ absurd (elsewhere first (Contains-head first runs) (omega (arith, reaches, less)))
       ]

@@ -10,7 +10,7 @@ use Rattle.rsb_integer.proofs.lemmas.List.{not_both}
 -- The lengths of canonical runs in a type add up to the number of their members.
 pub sum_by-canonical : (n : ℕ) (runs : List Interval) → IsCanonicalIn n runs
     → sum_by length_of runs ≡ count n (members runs)
-sum_by-canonical n runs canonical = sym (count-members n 0 runs canonical.0 canonical.1)
+sum_by-canonical n runs canonical = sym (count-members n 0 runs canonical.apart canonical.within)
 
 -- They add up to at most n.
 pub sum_by-within : (n : ℕ) (runs : List Interval) → IsCanonicalIn n runs

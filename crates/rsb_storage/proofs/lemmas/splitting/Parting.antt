@@ -101,55 +101,81 @@ module _ (n : ℕ) (runs : List Interval) (canonical : IsCanonicalIn n runs) (po
       (omega (arith, starts)) reaches)
       (joins.free point (omega (arith, above)) (omega (arith, within)))
 
-  -- Once the high part of the run is inserted, the runs are split by their starts. Then the low
-  -- part takes the place of the run.
-  pub within-parting : (low high : Interval) → low.first ≡ run.first → low.last + 1 ≡ point
-      → high.first ≡ point → high.last ≡ run.last
-      → IsParting n runs (with_run low (runs_below point (with_run high runs)))
-      (starting_from point (with_run high runs)) point
-  within-parting low high low_starts low_ends high_starts high_ends =
-      let parts = over-parting n (without_start run.first runs) joins.fewer_canonical point rest-over in
-      let maximal = contained-maximal n runs canonical run among in
-      let is_low : with_run low (runs_below point (with_run high runs))
-      ≡ with_run low (runs_below point (without_start run.first runs)) =
-      ap (with_run low)
-      (starting-with_run_not (λ start. nat_lt start point) high runs
-      (grind (arith, nat_tests, high_starts)) (λ start more. grind (arith, nat_tests, high_starts, more)))
-      ∙ sym (with_run-without_start low (runs_below point runs))
-      ∙ ap (λ (items : List Interval). with_run low items)
-      (ap (λ start. without_start start (runs_below point runs)) low_starts
-      ∙ starting-swap (λ start. not (start == run.first)) (λ start. nat_lt start point) runs) in
-      let is_high : starting_from point (with_run high runs)
-      ≡ with_run high (starting_from point (without_start run.first runs)) =
-      starting-with_run (λ start. nat_le point start) high runs
-      (grind (arith, nat_tests, high_starts))
-      ∙ ap (with_run high) (sym (starting-starting (λ start. nat_le point start)
-      (λ start. not (start == run.first)) (λ start. nat_le point start) runs
-      (λ start. grind (arith, nat_tests, above)))) in
-      let low_put = with_run-joined n (runs_below point (without_start run.first runs))
-      parts.low_canonical low (omega (arith, low_starts, low_ends, above))
-      (omega (arith, low_ends, within, maximal.in_type))
-      (λ rank from to. starting-lacks (λ start. nat_lt start point) (without_start run.first runs) rank
-      (joins.free rank (omega (arith, from, low_starts)) (omega (arith, to, low_ends, within)))) in
-      let high_put = with_run-joined n (starting_from point (without_start run.first runs))
-      parts.high_canonical high (omega (arith, high_starts, high_ends, within))
-      (omega (arith, high_ends, maximal.in_type))
-      (λ rank from to. starting-lacks (λ start. nat_le point start) (without_start run.first runs) rank
-      (joins.free rank (omega (arith, from, high_starts, above)) (omega (arith, to, high_ends)))) in
-      parts-parting n runs (with_run low (runs_below point (with_run high runs)))
-      (starting_from point (with_run high runs)) point
-      (subst (IsCanonicalIn n) (sym is_low) low_put.more_canonical)
-      (subst (IsCanonicalIn n) (sym is_high) high_put.more_canonical)
-      (λ rank. ap (λ (items : List Interval). members items rank) is_low
-      ∙ (let has = low_put.has rank in
-      let one = parts.below rank in
-      let all = joins.has rank in
-      grind (arith, nat_tests, has, one, all, low_starts, low_ends, within)))
-      (λ rank. ap (λ (items : List Interval). members items rank) is_high
-      ∙ (let has = high_put.has rank in
-      let one = parts.from rank in
-      let all = joins.has rank in
-      grind (arith, nat_tests, has, one, all, high_starts, high_ends, above)))
+  -- The other runs, split by their starts.
+  parts : IsParting n (without_start run.first runs)
+      (runs_below point (without_start run.first runs))
+      (starting_from point (without_start run.first runs)) point
+  parts = over-parting n (without_start run.first runs) joins.fewer_canonical point rest-over
+
+  -- The run ends within the type.
+  in_type : run.last < n
+  in_type = (contained-maximal n runs canonical run among).in_type
+
+  -- ---- the low and the high part of the run
+  module _ (low high : Interval) (low_starts : low.first ≡ run.first) (low_ends : low.last + 1 ≡ point)
+      (high_starts : high.first ≡ point) (high_ends : high.last ≡ run.last) where
+    -- Among the runs that start below the rank, the low part takes the place of the run.
+    low-is : with_run low (runs_below point (with_run high runs))
+        ≡ with_run low (runs_below point (without_start run.first runs))
+    low-is =
+        ap (with_run low)
+        (starting-with_run_not (λ start. nat_lt start point) high runs
+        (grind (arith, nat_tests, high_starts))
+        (λ start more. grind (arith, nat_tests, high_starts, more)))
+        ∙ sym (with_run-without_start low (runs_below point runs))
+        ∙ ap (λ (items : List Interval). with_run low items)
+        (ap (λ start. without_start start (runs_below point runs)) low_starts
+        ∙ starting-swap (λ start. not (start == run.first)) (λ start. nat_lt start point) runs)
+
+    -- The high part is inserted among the runs that start at the rank or past it.
+    high-is : starting_from point (with_run high runs)
+        ≡ with_run high (starting_from point (without_start run.first runs))
+    high-is =
+        starting-with_run (λ start. nat_le point start) high runs
+        (grind (arith, nat_tests, high_starts))
+        ∙ ap (with_run high) (sym (starting-starting (λ start. nat_le point start)
+        (λ start. not (start == run.first)) (λ start. nat_le point start) runs
+        (λ start. grind (arith, nat_tests, above))))
+
+    -- The low part touches none of the runs that it joins.
+    low-joined : IsJoined n (runs_below point (without_start run.first runs)) low
+        (with_run low (runs_below point (without_start run.first runs)))
+    low-joined =
+        with_run-joined n (runs_below point (without_start run.first runs)) parts.low_canonical low
+        (omega (arith, low_starts, low_ends, above)) (omega (arith, low_ends, within, in_type))
+        (λ rank from to. starting-lacks (λ start. nat_lt start point)
+        (without_start run.first runs) rank
+        (joins.free rank (omega (arith, from, low_starts)) (omega (arith, to, low_ends, within))))
+
+    -- Nor does the high part.
+    high-joined : IsJoined n (starting_from point (without_start run.first runs)) high
+        (with_run high (starting_from point (without_start run.first runs)))
+    high-joined =
+        with_run-joined n (starting_from point (without_start run.first runs)) parts.high_canonical
+        high (omega (arith, high_starts, high_ends, within)) (omega (arith, high_ends, in_type))
+        (λ rank from to. starting-lacks (λ start. nat_le point start)
+        (without_start run.first runs) rank
+        (joins.free rank (omega (arith, from, high_starts, above)) (omega (arith, to, high_ends))))
+
+    -- Once the high part of the run is inserted, the runs are split by their starts. Then the low
+    -- part takes the place of the run.
+    pub within-parting : IsParting n runs (with_run low (runs_below point (with_run high runs)))
+        (starting_from point (with_run high runs)) point
+    within-parting =
+        parts-parting n runs (with_run low (runs_below point (with_run high runs)))
+        (starting_from point (with_run high runs)) point
+        (subst (IsCanonicalIn n) (sym low-is) low-joined.more_canonical)
+        (subst (IsCanonicalIn n) (sym high-is) high-joined.more_canonical)
+        (λ rank. ap (λ (items : List Interval). members items rank) low-is
+        ∙ (let has = low-joined.has rank in
+        let one = parts.below rank in
+        let all = joins.has rank in
+        grind (arith, nat_tests, has, one, all, low_starts, low_ends, within)))
+        (λ rank. ap (λ (items : List Interval). members items rank) high-is
+        ∙ (let has = high-joined.has rank in
+        let one = parts.from rank in
+        let all = joins.has rank in
+        grind (arith, nat_tests, has, one, all, high_starts, high_ends, above)))
 
   -- The run is among those that start below the rank.
   pub within-there : (high : Interval) → high.first ≡ point
@@ -164,7 +190,7 @@ module _ (n : ℕ) (runs : List Interval) (canonical : IsCanonicalIn n runs) (po
       → without_start point (with_run high runs) ≡ runs
   within-without high starts =
       ap (λ start. without_start start (with_run high runs)) (sym starts)
-      ∙ without_start-with_run n 0 high runs (canonical-rises n 0 runs canonical.0 canonical.1)
+      ∙ without_start-with_run n 0 high runs (canonical-rises n 0 runs canonical.apart canonical.within)
       (λ other found same.
       let own = (contained-maximal n runs canonical other found).in_order in
       let meets = contained-starts n runs canonical other run point found among

@@ -54,7 +54,7 @@ module _ (n : ℕ) (runs : List Interval) (canonical : IsCanonicalIn n runs) (wi
         in_type = omega (arith, known, to);
         later = canonical-raise 0 (part.first + 1) within
             (starting-canonical_in (λ start. nat_le part.first start && nat_le start part.last) n
-            runs canonical).0 within-starts;
+            runs canonical).apart within-starts;
         earlier = All-weaker (Contains within) (λ (run : Interval). run.last < part.last)
             within-ends within (All-contains_itself within);
       }

@@ -12,6 +12,7 @@ use Rattle.rsb_storage.specs.Storage.{entry_of, entry_run, run_of, runs_of}
 use Rattle.rsb_storage.specs.Set.{IsSetOf}
 use Rattle.rsb_storage.specs.declared.run.Run.{Run}
 use Rattle.rsb_storage.proofs.lemmas.windows.Gaps.{gaps-canonical, last-apart}
+use Rattle.rsb_integer.proofs.lemmas.Canonical.{canonical-none}
 
 -- If the last entry is that of the run, the runs of the entries end with this run.
 pub last-runs : {T : Type 0} (rank : T → ℕ) {entries : List (T × T)} (front : List (T × T))
@@ -27,18 +28,18 @@ module _ {T : Type 0} (rank : T → ℕ) (n : ℕ) (value_at : ℕ → T) where
       → intervals_of rank (ranges_at value_at runs) ≡ runs
   intervals_of-ranges ranks low [] canonical ends = refl
   intervals_of-ranges ranks low (run ∷ runs) canonical ends =
-      let order = canonical.1 in
+      let order = canonical.in_order in
       let last = All-head (λ (each : Interval). each.last < n) run runs ends in
       let first : run.first < n = omega (arith, order, last) in λ i.
       (record { first = ranks run.first first i; last = ranks run.last last i })
-      ∷ intervals_of-ranges ranks (run.last + 2) runs canonical.2
+      ∷ intervals_of-ranges ranks (run.last + 2) runs canonical.rest
       (All-tail (λ (each : Interval). each.last < n) run runs ends) i
 
   pub intervals_of-ranges_at : ((place : ℕ) → place < n → rank (value_at place) ≡ place)
       → (runs : List Interval) → IsCanonicalIn n runs
       → intervals_of rank (ranges_at value_at runs) ≡ runs
   intervals_of-ranges_at ranks runs canonical =
-      intervals_of-ranges ranks 0 runs canonical.0 canonical.1
+      intervals_of-ranges ranks 0 runs canonical.apart canonical.within
 
   -- So if the intervals are canonical, the ranges are.
   pub ranges-canonical : ((place : ℕ) → place < n → rank (value_at place) ≡ place)
@@ -57,7 +58,7 @@ module _ {T : Type 0} (rank : T → ℕ) (n : ℕ) (value_at : ℕ → T) where
   -- The gaps that are left are canonical.
   pub left-canonical : (rest : Option (Run T)) (entries : List (T × T))
       → AreGapsLeft rank n rest entries → IsCanonicalIn n (gaps_left rank rest entries)
-  left-canonical None entries left = (tt, All-nil (λ (each : Interval). each.last < n))
+  left-canonical None entries left = canonical-none n
   left-canonical (Some run) entries left =
       gaps-canonical n (rank run.start) (rank run.end) (runs_of rank entries) left
 
@@ -80,10 +81,10 @@ module _ {T : Type 0} (rank : T → ℕ) (n : ℕ) (value_at : ℕ → T) where
         → ranges_at value_at gaps ≡ item ∷ ranges_at value_at others
     gap-first others gap item canonical starts ends more parts =
         let left = subst (IsCanonicalIn n) parts canonical in
-        let known = All-head (λ (each : Interval). each.last < n) (run_of rank gap) others left.1 in
+        let known = All-head (λ (each : Interval). each.last < n) (run_of rank gap) others left.within in
         ap (ranges_at value_at) parts
         ∙ ap (λ (range : RangeInclusive T). range ∷ ranges_at value_at others)
-        (range_at-is gap item left.0.1 known starts ends more)
+        (range_at-is gap item left.apart.in_order known starts ends more)
 
     -- If a gap is the last of those that are left, its range is the last of their ranges.
     pub gap-last : {gaps : List Interval} (others : List Interval) (gap : Run T)
@@ -93,8 +94,8 @@ module _ {T : Type 0} (rank : T → ℕ) (n : ℕ) (value_at : ℕ → T) where
         → ranges_at value_at gaps ≡ ranges_at value_at others ++ item ∷ []
     gap-last others gap item canonical starts ends more parts =
         let left = subst (IsCanonicalIn n) parts canonical in
-        let last = last-apart 0 n others (run_of rank gap) left.0 left.1 in
+        let last = last-apart 0 n others (run_of rank gap) left.apart left.within in
         ap (ranges_at value_at) parts
         ∙ map-append (range_at value_at) others (run_of rank gap ∷ [])
         ∙ ap (λ (range : RangeInclusive T). ranges_at value_at others ++ range ∷ [])
-        (range_at-is gap item last.1 last.2 starts ends more)
+        (range_at-is gap item last.in_order last.ends starts ends more)

@@ -24,13 +24,15 @@ up_to-canonical : (last low : ℕ) (runs : List Interval) → IsCanonicalFrom lo
 up_to-canonical last low [] canonical starts = tt
 up_to-canonical last low (run ∷ runs) canonical starts =
     let here = starts run (Contains-head run runs) in
-    let ordered = canonical.1 in (
-      canonical.0,
-      omega (arith, here, ordered),
-      canonical-lower (run.last + 2) (min run.last last + 2) (map (up_to last) runs) (omega arith)
-          (up_to-canonical last (run.last + 2) runs canonical.2
-          (λ other found. starts other (Contains-tail run runs other found))),
-    )
+    let ordered = canonical.in_order in
+    record {
+      starts = canonical.starts;
+      in_order = omega (arith, here, ordered);
+      rest = canonical-lower (run.last + 2) (min run.last last + 2) (map (up_to last) runs)
+          (omega arith)
+          (up_to-canonical last (run.last + 2) runs canonical.rest
+          (λ other found. starts other (Contains-tail run runs other found)));
+    }
 
 -- If the intervals end below n, so do these parts.
 up_to-ends : (n last : ℕ) (runs : List Interval) → AllEndBelow n runs
@@ -58,10 +60,10 @@ module _ (n : ℕ) (runs : List Interval) (first last : ℕ) (parts : List Inter
     (is : IsWindow n runs first last parts) where
   -- So the parts of a window up to its last rank are canonical.
   pub window-canonical : IsCanonicalIn n (map (up_to last) parts)
-  window-canonical = (
-    up_to-canonical last 0 parts is.canonical.0 is.starts,
-    up_to-ends n last parts is.canonical.1,
-  )
+  window-canonical = record {
+    apart = up_to-canonical last 0 parts is.canonical.apart is.starts;
+    within = up_to-ends n last parts is.canonical.within;
+  }
 
   -- They have the members from its first rank to its last.
   pub window-members : IsSetOf (map (up_to last) parts)
@@ -81,8 +83,11 @@ module _ (n : ℕ) (runs : List Interval) (first last : ℕ) (parts : List Inter
 pub canonical-raise : (low from : ℕ) (runs : List Interval) → IsCanonicalFrom low runs
     → ((run : Interval) → Contains runs run → from ≤ run.first) → IsCanonicalFrom from runs
 canonical-raise low from [] canonical starts = tt
-canonical-raise low from (run ∷ runs) canonical starts =
-    (starts run (Contains-head run runs), canonical.1, canonical.2)
+canonical-raise low from (run ∷ runs) canonical starts = record {
+  starts = starts run (Contains-head run runs);
+  in_order = canonical.in_order;
+  rest = canonical.rest;
+}
 
 module _ (n : ℕ) (runs : List Interval) (canonical : IsCanonicalIn n runs) (first last : ℕ)
     (order : first ≤ last) where
@@ -176,55 +181,80 @@ module _ (n : ℕ) (runs : List Interval) (canonical : IsCanonicalIn n runs) (fi
           ]
         ])
 
+    -- This part and the runs that start in the window are canonical.
+    reached-canonical : IsCanonicalIn n (part ∷ starting_within first last runs)
+    reached-canonical =
+        let starts = reaches.starts in
+        let ends = reaches.ends in
+        let to = reaches.reaches in
+        let inside = (contained-maximal n runs canonical reaches.run reaches.among).in_type in
+        record {
+          apart = record {
+            starts = omega arith;
+            in_order = omega (arith, starts, ends, to);
+            rest = canonical-raise 0 (part.last + 2) (starting_within first last runs)
+                (starting-canonical (λ start. nat_le first start && nat_le start last) 0 runs
+                canonical.apart) part-apart;
+          };
+          within = All-cons (λ (each : Interval). each.last < n) part
+              (starting_within first last runs) (omega (arith, ends, inside))
+              (All-filter (λ (each : Interval). nat_le first each.first && nat_le each.first last)
+              (λ (each : Interval). each.last < n) runs canonical.within);
+        }
+
+    -- Below the window, this part has no rank. Within the window and up to its end, it has all of
+    -- them, and so does the list.
+    part-has : (rank : ℕ) → rank ≤ part.last
+        → covers part rank ≡ (members runs rank && nat_le first rank)
+    part-has rank to =
+        let starts = reaches.starts in
+        let ends = reaches.ends in
+        let less = reaches.before in
+        elim (cases_lt rank first) [
+          | inl low ↦
+              let lacks = covers-outside part rank (inl (omega (arith, low, starts))) in
+              let below : nat_le first rank ≡ false = grind (arith, nat_tests, low) in
+              rw (lacks, below) (grind arith)
+          | inr high ↦
+              let here = covers-inside part rank (omega (arith, high, starts)) to in
+              let from : nat_le first rank ≡ true = grind (arith, nat_tests, high) in
+              let member = contained-members n runs canonical reaches.run rank reaches.among
+              (omega (arith, less, high)) (omega (arith, to, ends)) in
+              rw (here, member, from) refl
+        ]
+
+    -- Together with the runs that start in the window, it has the members from `first` on.
+    reached-members : (rank : ℕ) → rank ≤ last
+        → members (part ∷ starting_within first last runs) rank
+        ≡ (members runs rank && nat_le first rank)
+    reached-members rank within =
+        let all = members-cons part (starting_within first last runs) rank in
+        let rest = rest-members rank within in
+        elim (cases_lt part.last rank) [
+          | inl past ↦
+              let ends = reaches.ends in
+              let to = reaches.reaches in
+              let lacks = covers-outside part rank (inr past) in
+              let from : nat_le first rank ≡ true = grind (arith, nat_tests, past, ends, to) in
+              let later : nat_lt part.last rank ≡ true = grind (arith, nat_tests, past) in
+              all ∙ rw (lacks, rest, from, later) (grind arith)
+          | inr to ↦
+              let here = part-has rank to in
+              let not_later : nat_lt part.last rank ≡ false = grind (arith, nat_tests, to) in
+              grind (arith, all, rest, here, not_later)
+        ]
+
     -- This part and the runs that start in the window form the window.
     pub window-reached : IsWindow n runs first last (part ∷ starting_within first last runs)
     window-reached =
         let starts = reaches.starts in
-        let ends = reaches.ends in
-        let to = reaches.reaches in
-        let less = reaches.before in
-        let inside = (contained-maximal n runs canonical reaches.run reaches.among).in_type in
         record {
-          canonical = (
-            (
-              omega arith,
-              omega (arith, starts, ends, to),
-              canonical-raise 0 (part.last + 2) (starting_within first last runs)
-                  (starting-canonical (λ start. nat_le first start && nat_le start last) 0 runs
-                  canonical.0) part-apart,
-            ),
-            All-cons (λ (each : Interval). each.last < n) part (starting_within first last runs)
-                (omega (arith, ends, inside))
-                (All-filter (λ (each : Interval). nat_le first each.first && nat_le each.first last)
-                (λ (each : Interval). each.last < n) runs canonical.1),
-          );
-          starts = λ run found. elim (Contains-cases part (starting_within first last runs) run found) [
-            | inl same ↦ subst (λ (each : Interval). each.first ≤ last) same (omega (arith, starts, order))
-            | inr later ↦ (within-contains run later).2
-          ];
-          has = λ rank within.
-              let all = members-cons part (starting_within first last runs) rank in
-              let rest = rest-members rank within in
-              elim (cases_lt part.last rank) [
-                | inl past ↦
-                    let lacks = covers-outside part rank (inr past) in
-                    let from : nat_le first rank ≡ true = grind (arith, nat_tests, past, ends, to) in
-                    let later : nat_lt part.last rank ≡ true = grind (arith, nat_tests, past) in
-                    all ∙ rw (lacks, rest, from, later) (grind arith)
-                | inr within_part ↦
-                    let not_later : nat_lt part.last rank ≡ false =
-                    grind (arith, nat_tests, within_part) in
-                    elim (cases_lt rank first) [
-                      | inl low ↦
-                          let lacks = covers-outside part rank (inl (omega (arith, low, starts))) in
-                          let below : nat_le first rank ≡ false = grind (arith, nat_tests, low) in
-                          all ∙ rw (lacks, rest, below) (grind arith)
-                      | inr high ↦
-                          let here = covers-inside part rank (omega (arith, high, starts)) within_part in
-                          let from : nat_le first rank ≡ true = grind (arith, nat_tests, high) in
-                          let member = contained-members n runs canonical reaches.run rank
-                          reaches.among (omega (arith, less, high)) (omega (arith, within_part, ends)) in
-                          all ∙ rw (here, member, from) refl
-                    ]
+          canonical = reached-canonical;
+          starts = λ run found.
+              elim (Contains-cases part (starting_within first last runs) run found) [
+                | inl same ↦
+                    subst (λ (each : Interval). each.first ≤ last) same (omega (arith, starts, order))
+                | inr later ↦ (within-contains run later).2
               ];
+          has = reached-members;
         }

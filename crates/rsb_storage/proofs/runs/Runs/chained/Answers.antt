@@ -33,14 +33,14 @@ made g c =
     ap (runs_of rank) (made-entries g.T.Ord.cmp g.met.T.Ord.total rank n laws.in_order laws.exact
     ran.0 (low ++ high) c.in_ok-map.map ran.2 (sym (map-id ran.0) ∙ items ∙ map-id (low ++ high))
     (subst (StartsAscendFrom n 0) (sym same)
-    (canonical-rises n 0 (c.args.low.now ++ c.args.high.now) c.requires.0 c.requires.1)))
+    (canonical-rises n 0 (c.args.low.now ++ c.args.high.now) c.requires.apart c.requires.within)))
     ∙ same
 
 pub invariant_of-result : goal.invariant_of-result
 invariant_of-result g c =
     subst (StartsAscendFrom g.T.Integer.value_count 0) (sym (made g c))
     (canonical-rises g.T.Integer.value_count 0 (c.args.low.now ++ c.args.high.now)
-    c.requires.0 c.requires.1)
+    c.requires.apart c.requires.within)
 
 pub returns : goal.returns
 returns g c = made g c

@@ -11,7 +11,7 @@ invariant_of-result g c =
     let laws = g.met.T.Integer in
     let rank = g.T.Integer.rank in
     let n = g.T.Integer.value_count in
-    let rises = canonical-rises n 0 (runs_of rank c.args.entries.items) c.requires.0 c.requires.1 in
+    let rises = canonical-rises n 0 (runs_of rank c.args.entries.items) c.requires.apart c.requires.within in
     let ran = c.in_ok-map.ensures.ran in
     let last = ran.3.2 tt in
     rw (made-entries g.T.Ord.cmp g.met.T.Ord.total rank n laws.in_order laws.exact
@@ -23,7 +23,7 @@ returns g c =
     let laws = g.met.T.Integer in
     let rank = g.T.Integer.rank in
     let n = g.T.Integer.value_count in
-    let rises = canonical-rises n 0 (runs_of rank c.args.entries.items) c.requires.0 c.requires.1 in
+    let rises = canonical-rises n 0 (runs_of rank c.args.entries.items) c.requires.apart c.requires.within in
     let ran = c.in_ok-map.ensures.ran in
     let last = ran.3.2 tt in
     ap (runs_of rank) (made-entries g.T.Ord.cmp g.met.T.Ord.total rank n laws.in_order laws.exact

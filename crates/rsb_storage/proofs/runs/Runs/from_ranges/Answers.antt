@@ -20,7 +20,7 @@ made g c =
     let n = g.T.Integer.value_count in
     let ranges = c.args.ranges.items in
     let ran = c.in_ok-map.ensures.ran in
-    let same = runs_of-bounds rank 0 ranges c.requires.0 in
+    let same = runs_of-bounds rank 0 ranges c.requires.apart in
     let items = items_from_drains ran.0 ran.1
     (YieldsList-from_map _ bounds_of
     (YieldsList-at c.map-entries.ensures.source
@@ -30,14 +30,14 @@ made g c =
     ap (runs_of rank) (made-entries g.T.Ord.cmp g.met.T.Ord.total rank n laws.in_order laws.exact
     ran.0 (map bounds_of ranges) c.in_ok-map.map ran.2 (sym (map-id ran.0) ∙ items)
     (subst (StartsAscendFrom n 0) (sym same)
-    (canonical-rises n 0 (intervals_of rank ranges) c.requires.0 c.requires.1)))
+    (canonical-rises n 0 (intervals_of rank ranges) c.requires.apart c.requires.within)))
     ∙ same
 
 pub invariant_of-result : goal.invariant_of-result
 invariant_of-result g c =
     subst (StartsAscendFrom g.T.Integer.value_count 0) (sym (made g c))
     (canonical-rises g.T.Integer.value_count 0 (intervals_of g.T.Integer.rank c.args.ranges.items)
-    c.requires.0 c.requires.1)
+    c.requires.apart c.requires.within)
 
 pub returns : goal.returns
 returns g c = made g c
