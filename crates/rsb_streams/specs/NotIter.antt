@@ -16,6 +16,10 @@ abbrev pub gaps_after : {T : Type 0} → (T → ℕ) → ℕ → Option T → Ou
 gaps_after rank n None P runs = runs ≡ []
 gaps_after rank n (Some start) P runs = runs_by n (gaps_from (rank start)) P runs
 
+-- Whether nothing has been drawn yet from the stream of a complement.
+abbrev pub ComplementsUndrawn : {T I : Type 0} → I → NotIter T I → Type 0
+ComplementsUndrawn of s = s.iter ≡ of
+
 module _ {T N I : Type 0} (integer : Elements T N) (stream : Stream I T N) where
   -- Whether the input is ready, a gap may start at the value, and no range to come starts before
   -- it.

@@ -12,9 +12,12 @@ use Rattle.rsb_integer.specs.Selection.{Selection, complement, difference, inter
 -- starts at `low` or later.
 abbrev pub HasSortedStartsFrom : ℕ → ℕ → List Interval → Type 0
 HasSortedStartsFrom n low [] = Unit {0}
-HasSortedStartsFrom n low (run ∷ runs) =
-    (low ≤ run.first) × (run.first ≤ run.last) × (run.last < n)
-    × HasSortedStartsFrom n run.first runs
+HasSortedStartsFrom n low (run ∷ runs) = record {
+  starts : low ≤ run.first;
+  in_order : run.first ≤ run.last;
+  in_type : run.last < n;
+  rest : HasSortedStartsFrom n run.first runs;
+}
 
 -- Whether the intervals are non-empty, within a type of n values and sorted by start.
 abbrev pub HasSortedStarts : ℕ → List Interval → Type 0
@@ -88,8 +91,11 @@ outcomes_unless done P runs = MatchBool done (runs ≡ []) (P runs)
 -- The held range, if there is one, followed by what else may be given.
 abbrev pub after : {T : Type 0} → (T → ℕ) → Option (RangeInclusive T) → Outcomes → Outcomes
 after rank None P runs = P runs
-after rank (Some range) P runs = (rest : List Interval) × P rest
-    × (runs ≡ interval_of rank range ∷ rest)
+after rank (Some range) P runs = record {
+  rest : List Interval;
+  given : P rest;
+  is : runs ≡ interval_of rank range ∷ rest;
+}
 
 -- The ranks from `first` onwards that are not in the set.
 abbrev pub gaps_from : ℕ → Selection → Selection
@@ -158,13 +164,6 @@ GivesSymmetricDifference n left right given =
 pub record IsReadyAnd {S : Type 0} (can_next : S → Type 0) (s : S) (Gives : Type 0) : Type 0 where
   pub ready : can_next s
   pub gives : Gives
-
--- Whether a stream is ready, the fact about what it gives holds, and nothing has been drawn yet
--- from others.
-pub record IsMade {S : Type 0} (can_next : S → Type 0) (s : S) (Gives New : Type 0) : Type 0 where
-  pub ready : can_next s
-  pub gives : Gives
-  pub new : New
 
 -- ---- `next` and `draw`
 

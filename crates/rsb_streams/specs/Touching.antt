@@ -6,12 +6,16 @@ use Rattle.rsb_integer.specs.Runs.{Interval, AllEndBelow}
 -- starts at `gap` past the last rank of the one before, or later.
 abbrev pub IsSpacedFrom : ℕ → ℕ → List Interval → Type 0
 IsSpacedFrom gap low [] = Unit {0}
-IsSpacedFrom gap low (run ∷ runs) =
-    (low ≤ run.first) × (run.first ≤ run.last) × IsSpacedFrom gap (run.last + gap) runs
+IsSpacedFrom gap low (run ∷ runs) = record {
+  starts : low ≤ run.first;
+  in_order : run.first ≤ run.last;
+  rest : IsSpacedFrom gap (run.last + gap) runs;
+}
 
 -- Whether the list is spaced in this way, wherever it starts, and within a type of n values.
-abbrev pub IsSpacedIn : ℕ → ℕ → List Interval → Type 0
-IsSpacedIn gap n runs = IsSpacedFrom gap 0 runs × AllEndBelow n runs
+pub record IsSpacedIn (gap n : ℕ) (runs : List Interval) : Type 0 where
+  pub spaced : IsSpacedFrom gap 0 runs
+  pub within : AllEndBelow n runs
 
 -- Whether the intervals are non-empty, the first starts at `low` or later, and each other one
 -- starts past the end of the one before.

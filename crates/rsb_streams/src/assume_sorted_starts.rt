@@ -1,10 +1,10 @@
 //! Streams of ranges that are known to be sorted by start.
 
 ghost use Rattle.rsb_streams.specs.Calls.{gives_as, GivesOnly};
-ghost use Rattle.rsb_streams.specs.CallsLaws.{known-answered, known-sorted};
+ghost use Rattle.rsb_streams.specs.laws.Calls.{known-answered, known-sorted};
 ghost use Rattle.rsb_streams.specs.AssumeSortedStarts.{assume_sorted_starts};
 ghost use Rattle.rsb_streams.specs.Stream.{◌⊆◌, HasSortedStarts};
-ghost use Rattle.rsb_streams.specs.StreamLaws.{drawn-itself};
+ghost use Rattle.rsb_streams.specs.laws.Stream.{drawn-itself};
 
 use crate::draw::Draw;
 use crate::sorted_disjoint::SortedStarts;

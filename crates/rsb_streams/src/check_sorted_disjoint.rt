@@ -4,11 +4,11 @@ ghost use Rattle.std.specs.Prelude.{◌≡◌, ◌↔◌, ◌+◌, [], take, IfE
 ghost use Rattle.rsb_integer.specs.Rank.{intervals_of};
 ghost use Rattle.rsb_integer.specs.Runs.{AllEndBelow, IsCanonicalIn};
 ghost use Rattle.rsb_streams.specs.Calls.{gives_as, GivesOnly};
-ghost use Rattle.rsb_streams.specs.CallsLaws.{known-answered, known-disjoint};
+ghost use Rattle.rsb_streams.specs.laws.Calls.{known-answered, known-disjoint};
 ghost use Rattle.rsb_streams.specs.CheckSortedDisjoint.{check_sorted_disjoint};
 ghost use Rattle.rsb_streams.specs.OutOfPlace.{IsFirstBad};
 ghost use Rattle.rsb_streams.specs.Stream.{◌⊆◌, just, IsReadyAnd};
-ghost use Rattle.rsb_streams.specs.StreamLaws.{canonical_stream-starts, drawn-itself};
+ghost use Rattle.rsb_streams.specs.laws.Stream.{canonical_stream-starts, drawn-itself};
 
 use crate::draw::Draw;
 use crate::not_sorted_disjoint::NotSortedDisjoint;

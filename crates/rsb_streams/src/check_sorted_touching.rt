@@ -4,13 +4,13 @@ ghost use Rattle.std.specs.Prelude.{◌≡◌, ◌↔◌, ◌+◌, take, IfErr, 
 ghost use Rattle.rsb_integer.specs.Rank.{intervals_of};
 ghost use Rattle.rsb_integer.specs.Runs.{AllEndBelow};
 ghost use Rattle.rsb_streams.specs.Calls.{gives_as, GivesOnly};
-ghost use Rattle.rsb_streams.specs.CallsLaws.{known-answered, known-touching};
+ghost use Rattle.rsb_streams.specs.laws.Calls.{known-answered, known-touching};
 ghost use Rattle.rsb_streams.specs.CheckSortedTouching.{check_sorted_touching};
 ghost use Rattle.rsb_streams.specs.OutOfPlace.{IsFirstBad};
 ghost use Rattle.rsb_streams.specs.Stream.{◌⊆◌, just};
-ghost use Rattle.rsb_streams.specs.StreamLaws.{drawn-itself};
+ghost use Rattle.rsb_streams.specs.laws.Stream.{drawn-itself};
 ghost use Rattle.rsb_streams.specs.Touching.{IsTouchingIn};
-ghost use Rattle.rsb_streams.specs.TouchingLaws.{touching-starts};
+ghost use Rattle.rsb_streams.specs.laws.Touching.{touching-starts};
 
 use crate::draw::Draw;
 use crate::not_sorted_touching::NotSortedTouching;

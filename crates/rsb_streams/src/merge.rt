@@ -1,10 +1,10 @@
 //! The merge of two streams by the starts of their ranges.
 
 ghost use Rattle.rsb_streams.specs.Merge.{merge, MergesUndrawn};
-ghost use Rattle.rsb_streams.specs.MergeLaws.{merge-sorted};
+ghost use Rattle.rsb_streams.specs.laws.Merge.{merge-sorted};
 ghost use Rattle.rsb_streams.specs.PutBack.{IsFresh};
 ghost use Rattle.rsb_streams.specs.Stream.{◌⊆◌, merges};
-ghost use Rattle.rsb_streams.specs.StreamLaws.{drawn-itself};
+ghost use Rattle.rsb_streams.specs.laws.Stream.{drawn-itself};
 
 use crate::draw::Draw;
 use crate::put_back::PutBack;
@@ -43,7 +43,7 @@ impl<T: Integer, L: Draw<T>, R: Draw<T>> Merge<T, L, R> {
         ensures ready { ⟦<Merge<T, L, R> as Draw<T>>⟧.can_draw result }
         ensures gives { ⟦<Merge<T, L, R> as Draw<T>>⟧.may_give result
             ⊆ merges T.value_count (L.may_give left) (R.may_give right) }
-        ensures new { MergesUndrawn T.Integer.own L.Draw R.Draw left right result }
+        ensures undrawn { MergesUndrawn T.Integer.own L.Draw R.Draw left right result }
     {
         Merge::of(left, right)
     }

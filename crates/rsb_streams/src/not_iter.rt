@@ -1,9 +1,9 @@
 //! The complement of a stream.
 
-ghost use Rattle.rsb_streams.specs.NotIter.{not_iter};
-ghost use Rattle.rsb_streams.specs.NotIterLaws.{not_iter-disjoint};
-ghost use Rattle.rsb_streams.specs.Results.{MakesComplement};
-ghost use Rattle.rsb_streams.specs.StreamLaws.{canonical_stream-starts, drawn-itself};
+ghost use Rattle.rsb_streams.specs.NotIter.{not_iter, ComplementsUndrawn};
+ghost use Rattle.rsb_streams.specs.laws.NotIter.{not_iter-disjoint};
+ghost use Rattle.rsb_streams.specs.Results.{MakesComplement, MakesComplementUndrawn};
+ghost use Rattle.rsb_streams.specs.laws.Stream.{canonical_stream-starts, drawn-itself};
 
 use crate::draw::Draw;
 use crate::sorted_disjoint::{DrawDisjoint, SortedDisjoint, SortedStarts};
@@ -24,7 +24,9 @@ impl<T: Integer, I: DrawDisjoint<T>> NotIter<T, I> {
     /// Returns the complement of a ready stream. Draws nothing yet. (`NotIter::new`.)
     pub fn new(iter: I) -> Self
         requires { I.can_draw iter }
-        ensures { MakesComplement T.Integer.own I.Draw ⟦<NotIter<T, I> as Draw<T>>⟧ iter result }
+        ensures made { MakesComplement T.Integer.own I.Draw ⟦<NotIter<T, I> as Draw<T>>⟧
+            iter result }
+        ensures undrawn { ComplementsUndrawn iter result }
     {
         NotIter::from(iter)
     }
@@ -33,7 +35,7 @@ impl<T: Integer, I: DrawDisjoint<T>> NotIter<T, I> {
 impl<T: Integer, I: DrawDisjoint<T>> From<I> for NotIter<T, I> {
     // Makes the complement of a ready stream. Draws nothing yet.
     ghost from_gives = { λ iter result. I.can_draw iter
-        → MakesComplement T.Integer.own I.Draw ⟦<NotIter<T, I> as Draw<T>>⟧ iter result };
+        → MakesComplementUndrawn T.Integer.own I.Draw ⟦<NotIter<T, I> as Draw<T>>⟧ iter result };
 
     fn from(iter: I) -> Self {
         NotIter {

@@ -4,18 +4,7 @@
 //! range.
 
 ghost use Rattle.std.specs.Iterator.{MakesProgress};
-ghost use Rattle.std.specs.Prelude.{
-  ◌≡◌,
-  ◌<◌,
-  ◌≤◌,
-  [],
-  ◌∷◌,
-  IfNone,
-  None,
-  Some,
-  false,
-  length,
-};
+ghost use Rattle.std.specs.Prelude.{◌≡◌, ◌<◌, ◌≤◌, [], ◌∷◌, IfNone, None, Some, false, length};
 ghost use Rattle.rsb_streams.specs.OddPieces.{
   begun_from,
   ends_in,
@@ -26,7 +15,7 @@ ghost use Rattle.rsb_streams.specs.OddPieces.{
   past_both,
   HasOneEnd,
 };
-ghost use Rattle.rsb_streams.specs.OddPiecesLaws.{odd_pieces-sorted};
+ghost use Rattle.rsb_streams.specs.laws.OddPieces.{odd_pieces-sorted};
 ghost use Rattle.rsb_streams.specs.Stream.{run_if_any};
 
 use crate::draw::Draw;

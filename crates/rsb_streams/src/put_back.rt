@@ -2,7 +2,7 @@
 
 ghost use Rattle.std.specs.Prelude.{◌≡◌};
 ghost use Rattle.rsb_streams.specs.PutBack.{put_back, HasRoom, IsFresh, IsPutBack};
-ghost use Rattle.rsb_streams.specs.PutBackLaws.{put_back-answered, put_back-sorted};
+ghost use Rattle.rsb_streams.specs.laws.PutBack.{put_back-answered, put_back-sorted};
 
 use crate::draw::Draw;
 use rsb_integer::Integer;

@@ -4,9 +4,9 @@ ghost use Rattle.std.specs.Iterator.{YieldsFirst, YieldsLast, item_count};
 ghost use Rattle.rsb_integer.specs.Rank.{interval_of, intervals_of};
 ghost use Rattle.rsb_integer.specs.Runs.{IsCanonicalIn};
 ghost use Rattle.rsb_streams.specs.Listed.{listed_may_give};
-ghost use Rattle.rsb_streams.specs.ListedLaws.{listed-answers, listed-keeps};
+ghost use Rattle.rsb_streams.specs.laws.Listed.{listed-answers, listed-keeps};
 ghost use Rattle.rsb_streams.specs.Stream.{◌⊆◌, just, run_if_any, IsReadyAnd};
-ghost use Rattle.rsb_streams.specs.StreamLaws.{canonical_stream-starts, drawn-itself};
+ghost use Rattle.rsb_streams.specs.laws.Stream.{canonical_stream-starts, drawn-itself};
 
 use crate::draw::Draw;
 use crate::sorted_disjoint::{DrawDisjoint, SortedDisjoint, SortedStarts};

@@ -14,6 +14,7 @@ ghost use Rattle.rsb_integer.specs.Selection.{
   union,
 };
 ghost use Rattle.rsb_streams.specs.FillGapsIter.{fill_may_give, GivesFilled};
+ghost use Rattle.rsb_streams.specs.NotIter.{ComplementsUndrawn};
 ghost use Rattle.rsb_streams.specs.Results.{
   MakesComplement,
   MakesDifference,
@@ -26,12 +27,8 @@ ghost use Rattle.rsb_streams.specs.RunCount.{
   GivesOneRunMoreAtMost,
   GivesRunsOfBothAtMost,
 };
-ghost use Rattle.rsb_streams.specs.Stream.{
-  ◌⊆◌,
-  IsDrawn,
-  SomeOutcome,
-  SomeOutcomes,
-};
+ghost use Rattle.rsb_streams.specs.Stream.{◌⊆◌, IsDrawn, SomeOutcome, SomeOutcomes};
+ghost use Rattle.rsb_streams.specs.Union.{UnitesUndrawn};
 
 use crate::draw::Draw;
 use crate::fill_gaps_iter::FillGapsIter;
@@ -73,6 +70,7 @@ pub trait DrawDisjoint<T: Integer>: Draw<T> {
         requires { Self.can_draw self }
         ensures made { MakesComplement T.Integer.own Self.Draw
             ⟦<NotIter<T, Self> as Draw<T>>⟧ self result }
+        ensures undrawn { ComplementsUndrawn self result }
         ensures run_count { GivesOneRunMoreAtMost T.Integer.own Self.Draw
             ⟦<NotIter<T, Self> as Draw<T>>⟧ self result }
     {
@@ -89,6 +87,7 @@ pub trait DrawDisjoint<T: Integer>: Draw<T> {
         requires right { R.can_draw other }
         ensures made { MakesUnion T.Integer.own Self.Draw R.Draw ⟦<Union<T, Self, R> as Draw<T>>⟧
             self other result }
+        ensures undrawn { UnitesUndrawn T.Integer.own Self.Draw R.Draw self other result.iter }
         ensures run_count { GivesRunsOfBothAtMost union T.Integer.own Self.Draw R.Draw
             ⟦<Union<T, Self, R> as Draw<T>>⟧ self other result }
     {

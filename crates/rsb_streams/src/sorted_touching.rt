@@ -24,7 +24,7 @@ pub trait SortedTouching<T: Integer>: SortedStarts<T> {
         ensures ready { ⟦<UnionIter<T, Self> as Draw<T>>⟧.can_draw result }
         ensures gives { ⟦<UnionIter<T, Self> as Draw<T>>⟧.may_give result
             ⊆ joined_runs T.value_count (Self.may_give self) }
-        ensures new { IsFresh self result.iter }
+        ensures undrawn { IsFresh self result.iter }
     {
         UnionIter::new(self)
     }

@@ -2,9 +2,9 @@
 
 ghost use Rattle.std.specs.Iterator.{MakesProgress};
 ghost use Rattle.std.specs.Prelude.{◌≡◌, ◌≤◌, length};
-ghost use Rattle.rsb_streams.specs.ResultLaws.{sym_diff-disjoint};
+ghost use Rattle.rsb_streams.specs.laws.Result.{sym_diff-disjoint};
 ghost use Rattle.rsb_streams.specs.Results.{MakesSymmetricDifference};
-ghost use Rattle.rsb_streams.specs.StreamLaws.{canonical_stream-starts, drawn-itself};
+ghost use Rattle.rsb_streams.specs.laws.Stream.{canonical_stream-starts, drawn-itself};
 ghost use Rattle.rsb_streams.specs.SymDiffIter.{ends_held, sym_diff};
 
 use crate::draw::Draw;

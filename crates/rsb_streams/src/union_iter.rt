@@ -2,11 +2,11 @@
 
 ghost use Rattle.std.specs.Prelude.{◌≡◌};
 ghost use Rattle.rsb_streams.specs.PutBack.{IsFresh};
-ghost use Rattle.rsb_streams.specs.Results.{MakesUnionIter};
+ghost use Rattle.rsb_streams.specs.Results.{MakesUnionIterUndrawn};
 ghost use Rattle.rsb_streams.specs.Stream.{◌⊆◌, joined_runs};
-ghost use Rattle.rsb_streams.specs.StreamLaws.{canonical_stream-starts, drawn-itself};
+ghost use Rattle.rsb_streams.specs.laws.Stream.{canonical_stream-starts, drawn-itself};
 ghost use Rattle.rsb_streams.specs.UnionIter.{union_iter};
-ghost use Rattle.rsb_streams.specs.UnionIterLaws.{union_iter-disjoint};
+ghost use Rattle.rsb_streams.specs.laws.UnionIter.{union_iter-disjoint};
 
 use crate::draw::Draw;
 use crate::merge::Merge;
@@ -50,7 +50,7 @@ impl<T: Integer, SS: Draw<T>> UnionIter<T, SS> {
         ensures ready { ⟦<UnionIter<T, SS> as Draw<T>>⟧.can_draw result }
         ensures gives { ⟦<UnionIter<T, SS> as Draw<T>>⟧.may_give result
             ⊆ joined_runs T.value_count (SS.may_give iter) }
-        ensures new { IsFresh iter result.iter }
+        ensures undrawn { IsFresh iter result.iter }
     {
         UnionIter::over(iter)
     }
@@ -59,8 +59,8 @@ impl<T: Integer, SS: Draw<T>> UnionIter<T, SS> {
 impl<T: Integer, L: Draw<T>, R: Draw<T>> From<(L, R)> for UnionIter<T, Merge<T, L, R>> {
     // Makes the union of two ready streams. Draws nothing yet. Not in range-set-blaze.
     ghost from_gives = { λ streams result. L.can_draw streams.0 → R.can_draw streams.1
-        → MakesUnionIter T.Integer.own L.Draw R.Draw ⟦<UnionIter<T, Merge<T, L, R>> as Draw<T>>⟧
-        streams.0 streams.1 result };
+        → MakesUnionIterUndrawn T.Integer.own L.Draw R.Draw
+        ⟦<UnionIter<T, Merge<T, L, R>> as Draw<T>>⟧ streams.0 streams.1 result };
 
     fn from(streams: (L, R)) -> Self {
         let (left, right) = streams;

@@ -8,11 +8,7 @@ ghost use Rattle.std.specs.Range.{
   range_inclusive_exhausted,
   range_inclusive_start,
 };
-ghost use Rattle.rsb_streams.specs.UnsortedDisjoint.{
-  starts_past,
-  unsorted_disjoint,
-  GivesSpans,
-};
+ghost use Rattle.rsb_streams.specs.UnsortedDisjoint.{starts_past, unsorted_disjoint, GivesSpans};
 
 use rsb_integer::Integer;
 use std::iter::{Fuse, FusedIterator};

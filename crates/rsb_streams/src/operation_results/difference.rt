@@ -1,9 +1,9 @@
 //! The difference of two streams.
 
 ghost use Rattle.rsb_streams.specs.Difference.{difference_row};
-ghost use Rattle.rsb_streams.specs.ResultLaws.{difference-disjoint};
+ghost use Rattle.rsb_streams.specs.laws.Result.{difference-disjoint};
 ghost use Rattle.rsb_streams.specs.Results.{MakesDifference};
-ghost use Rattle.rsb_streams.specs.StreamLaws.{canonical_stream-starts, drawn-itself};
+ghost use Rattle.rsb_streams.specs.laws.Stream.{canonical_stream-starts, drawn-itself};
 
 use crate::draw::Draw;
 use crate::merge::Merge;

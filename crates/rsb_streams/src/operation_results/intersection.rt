@@ -1,9 +1,9 @@
 //! The intersection of two streams.
 
 ghost use Rattle.rsb_streams.specs.Intersection.{intersection_row};
-ghost use Rattle.rsb_streams.specs.ResultLaws.{intersection-disjoint};
+ghost use Rattle.rsb_streams.specs.laws.Result.{intersection-disjoint};
 ghost use Rattle.rsb_streams.specs.Results.{MakesIntersection};
-ghost use Rattle.rsb_streams.specs.StreamLaws.{canonical_stream-starts, drawn-itself};
+ghost use Rattle.rsb_streams.specs.laws.Stream.{canonical_stream-starts, drawn-itself};
 
 use crate::draw::Draw;
 use crate::merge::Merge;

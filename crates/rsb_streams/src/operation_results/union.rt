@@ -1,8 +1,8 @@
 //! The union of two streams.
 
-ghost use Rattle.rsb_streams.specs.Results.{MakesUnion};
-ghost use Rattle.rsb_streams.specs.ResultLaws.{union-disjoint};
-ghost use Rattle.rsb_streams.specs.StreamLaws.{canonical_stream-starts, drawn-itself};
+ghost use Rattle.rsb_streams.specs.Results.{MakesUnionUndrawn};
+ghost use Rattle.rsb_streams.specs.laws.Result.{union-disjoint};
+ghost use Rattle.rsb_streams.specs.laws.Stream.{canonical_stream-starts, drawn-itself};
 ghost use Rattle.rsb_streams.specs.Union.{union_row};
 
 use crate::draw::Draw;
@@ -24,7 +24,7 @@ pub struct Union<T, L, R> {
 impl<T: Integer, L: DrawDisjoint<T>, R: DrawDisjoint<T>> From<(L, R)> for Union<T, L, R> {
     // Makes the union of two ready streams. Draws nothing yet.
     ghost from_gives = { λ streams result. L.can_draw streams.0 → R.can_draw streams.1
-        → MakesUnion T.Integer.own L.Draw R.Draw ⟦<Union<T, L, R> as Draw<T>>⟧
+        → MakesUnionUndrawn T.Integer.own L.Draw R.Draw ⟦<Union<T, L, R> as Draw<T>>⟧
         streams.0 streams.1 result };
 
     fn from(streams: (L, R)) -> Self {

@@ -1,6 +1,6 @@
 //! The operator `|` on streams: the union of two.
 
-ghost use Rattle.rsb_streams.specs.Results.{CanDrawBoth, MakesUnion};
+ghost use Rattle.rsb_streams.specs.Results.{CanDrawBoth, MakesUnionUndrawn};
 
 use crate::check_sorted_disjoint::CheckSortedDisjoint;
 use crate::draw::Draw;
@@ -18,7 +18,7 @@ impl<T: Integer, I: Draw<T>, R: DrawDisjoint<T>> BitOr<R> for NotIter<T, I> {
 
     ghost can_bitor = { CanDrawBoth ⟦<NotIter<T, I> as Draw<T>>⟧ R.Draw };
 
-    ghost bitor_gives = { MakesUnion T.Integer.own ⟦<NotIter<T, I> as Draw<T>>⟧ R.Draw
+    ghost bitor_gives = { MakesUnionUndrawn T.Integer.own ⟦<NotIter<T, I> as Draw<T>>⟧ R.Draw
         ⟦<Union<T, NotIter<T, I>, R> as Draw<T>>⟧ };
 
     fn bitor(self, other: R) -> Self::Output {
@@ -31,7 +31,7 @@ impl<T: Integer, I: Draw<T>, R: DrawDisjoint<T>> BitOr<R> for UnionIter<T, I> {
 
     ghost can_bitor = { CanDrawBoth ⟦<UnionIter<T, I> as Draw<T>>⟧ R.Draw };
 
-    ghost bitor_gives = { MakesUnion T.Integer.own ⟦<UnionIter<T, I> as Draw<T>>⟧ R.Draw
+    ghost bitor_gives = { MakesUnionUndrawn T.Integer.own ⟦<UnionIter<T, I> as Draw<T>>⟧ R.Draw
         ⟦<Union<T, UnionIter<T, I>, R> as Draw<T>>⟧ };
 
     fn bitor(self, other: R) -> Self::Output {
@@ -44,7 +44,7 @@ impl<T: Integer, A: Draw<T>, B: Draw<T>, R: DrawDisjoint<T>> BitOr<R> for Union<
 
     ghost can_bitor = { CanDrawBoth ⟦<Union<T, A, B> as Draw<T>>⟧ R.Draw };
 
-    ghost bitor_gives = { MakesUnion T.Integer.own ⟦<Union<T, A, B> as Draw<T>>⟧ R.Draw
+    ghost bitor_gives = { MakesUnionUndrawn T.Integer.own ⟦<Union<T, A, B> as Draw<T>>⟧ R.Draw
         ⟦<Union<T, Union<T, A, B>, R> as Draw<T>>⟧ };
 
     fn bitor(self, other: R) -> Self::Output {
@@ -57,7 +57,8 @@ impl<T: Integer, A: Draw<T>, B: Draw<T>, R: DrawDisjoint<T>> BitOr<R> for Inters
 
     ghost can_bitor = { CanDrawBoth ⟦<Intersection<T, A, B> as Draw<T>>⟧ R.Draw };
 
-    ghost bitor_gives = { MakesUnion T.Integer.own ⟦<Intersection<T, A, B> as Draw<T>>⟧ R.Draw
+    ghost bitor_gives = { MakesUnionUndrawn T.Integer.own
+        ⟦<Intersection<T, A, B> as Draw<T>>⟧ R.Draw
         ⟦<Union<T, Intersection<T, A, B>, R> as Draw<T>>⟧ };
 
     fn bitor(self, other: R) -> Self::Output {
@@ -70,7 +71,7 @@ impl<T: Integer, A: Draw<T>, B: Draw<T>, R: DrawDisjoint<T>> BitOr<R> for Differ
 
     ghost can_bitor = { CanDrawBoth ⟦<Difference<T, A, B> as Draw<T>>⟧ R.Draw };
 
-    ghost bitor_gives = { MakesUnion T.Integer.own ⟦<Difference<T, A, B> as Draw<T>>⟧ R.Draw
+    ghost bitor_gives = { MakesUnionUndrawn T.Integer.own ⟦<Difference<T, A, B> as Draw<T>>⟧ R.Draw
         ⟦<Union<T, Difference<T, A, B>, R> as Draw<T>>⟧ };
 
     fn bitor(self, other: R) -> Self::Output {
@@ -83,7 +84,7 @@ impl<T: Integer, A: Draw<T>, B: Draw<T>, R: DrawDisjoint<T>> BitOr<R> for SymDif
 
     ghost can_bitor = { CanDrawBoth ⟦<SymDiffIter<T, A, B> as Draw<T>>⟧ R.Draw };
 
-    ghost bitor_gives = { MakesUnion T.Integer.own ⟦<SymDiffIter<T, A, B> as Draw<T>>⟧ R.Draw
+    ghost bitor_gives = { MakesUnionUndrawn T.Integer.own ⟦<SymDiffIter<T, A, B> as Draw<T>>⟧ R.Draw
         ⟦<Union<T, SymDiffIter<T, A, B>, R> as Draw<T>>⟧ };
 
     fn bitor(self, other: R) -> Self::Output {
@@ -97,7 +98,8 @@ impl<T: Integer, I: Iterator<Item = RangeInclusive<T>>, R: DrawDisjoint<T>> BitO
 
     ghost can_bitor = { CanDrawBoth ⟦<CheckSortedDisjoint<T, I> as Draw<T>>⟧ R.Draw };
 
-    ghost bitor_gives = { MakesUnion T.Integer.own ⟦<CheckSortedDisjoint<T, I> as Draw<T>>⟧ R.Draw
+    ghost bitor_gives = { MakesUnionUndrawn T.Integer.own
+        ⟦<CheckSortedDisjoint<T, I> as Draw<T>>⟧ R.Draw
         ⟦<Union<T, CheckSortedDisjoint<T, I>, R> as Draw<T>>⟧ };
 
     fn bitor(self, other: R) -> Self::Output {
@@ -110,7 +112,7 @@ impl<T: Integer, R: DrawDisjoint<T>> BitOr<R> for RangeOnce<T> {
 
     ghost can_bitor = { CanDrawBoth ⟦<RangeOnce<T> as Draw<T>>⟧ R.Draw };
 
-    ghost bitor_gives = { MakesUnion T.Integer.own ⟦<RangeOnce<T> as Draw<T>>⟧ R.Draw
+    ghost bitor_gives = { MakesUnionUndrawn T.Integer.own ⟦<RangeOnce<T> as Draw<T>>⟧ R.Draw
         ⟦<Union<T, RangeOnce<T>, R> as Draw<T>>⟧ };
 
     fn bitor(self, other: R) -> Self::Output {

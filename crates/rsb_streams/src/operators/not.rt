@@ -1,6 +1,6 @@
 //! The operator `!` on streams: the complement of one.
 
-ghost use Rattle.rsb_streams.specs.Results.{MakesComplement};
+ghost use Rattle.rsb_streams.specs.Results.{MakesComplementUndrawn};
 
 use crate::check_sorted_disjoint::CheckSortedDisjoint;
 use crate::draw::Draw;
@@ -17,7 +17,7 @@ impl<T: Integer, I: Draw<T>> Not for NotIter<T, I> {
 
     ghost can_not = { ⟦<NotIter<T, I> as Draw<T>>⟧.can_draw };
 
-    ghost not_gives = { MakesComplement T.Integer.own ⟦<NotIter<T, I> as Draw<T>>⟧
+    ghost not_gives = { MakesComplementUndrawn T.Integer.own ⟦<NotIter<T, I> as Draw<T>>⟧
         ⟦<NotIter<T, NotIter<T, I>> as Draw<T>>⟧ };
 
     fn not(self) -> Self::Output {
@@ -30,7 +30,7 @@ impl<T: Integer, I: Draw<T>> Not for UnionIter<T, I> {
 
     ghost can_not = { ⟦<UnionIter<T, I> as Draw<T>>⟧.can_draw };
 
-    ghost not_gives = { MakesComplement T.Integer.own ⟦<UnionIter<T, I> as Draw<T>>⟧
+    ghost not_gives = { MakesComplementUndrawn T.Integer.own ⟦<UnionIter<T, I> as Draw<T>>⟧
         ⟦<NotIter<T, UnionIter<T, I>> as Draw<T>>⟧ };
 
     fn not(self) -> Self::Output {
@@ -43,7 +43,7 @@ impl<T: Integer, A: Draw<T>, B: Draw<T>> Not for Union<T, A, B> {
 
     ghost can_not = { ⟦<Union<T, A, B> as Draw<T>>⟧.can_draw };
 
-    ghost not_gives = { MakesComplement T.Integer.own ⟦<Union<T, A, B> as Draw<T>>⟧
+    ghost not_gives = { MakesComplementUndrawn T.Integer.own ⟦<Union<T, A, B> as Draw<T>>⟧
         ⟦<NotIter<T, Union<T, A, B>> as Draw<T>>⟧ };
 
     fn not(self) -> Self::Output {
@@ -56,7 +56,7 @@ impl<T: Integer, A: Draw<T>, B: Draw<T>> Not for Intersection<T, A, B> {
 
     ghost can_not = { ⟦<Intersection<T, A, B> as Draw<T>>⟧.can_draw };
 
-    ghost not_gives = { MakesComplement T.Integer.own ⟦<Intersection<T, A, B> as Draw<T>>⟧
+    ghost not_gives = { MakesComplementUndrawn T.Integer.own ⟦<Intersection<T, A, B> as Draw<T>>⟧
         ⟦<NotIter<T, Intersection<T, A, B>> as Draw<T>>⟧ };
 
     fn not(self) -> Self::Output {
@@ -69,7 +69,7 @@ impl<T: Integer, A: Draw<T>, B: Draw<T>> Not for Difference<T, A, B> {
 
     ghost can_not = { ⟦<Difference<T, A, B> as Draw<T>>⟧.can_draw };
 
-    ghost not_gives = { MakesComplement T.Integer.own ⟦<Difference<T, A, B> as Draw<T>>⟧
+    ghost not_gives = { MakesComplementUndrawn T.Integer.own ⟦<Difference<T, A, B> as Draw<T>>⟧
         ⟦<NotIter<T, Difference<T, A, B>> as Draw<T>>⟧ };
 
     fn not(self) -> Self::Output {
@@ -82,7 +82,7 @@ impl<T: Integer, A: Draw<T>, B: Draw<T>> Not for SymDiffIter<T, A, B> {
 
     ghost can_not = { ⟦<SymDiffIter<T, A, B> as Draw<T>>⟧.can_draw };
 
-    ghost not_gives = { MakesComplement T.Integer.own ⟦<SymDiffIter<T, A, B> as Draw<T>>⟧
+    ghost not_gives = { MakesComplementUndrawn T.Integer.own ⟦<SymDiffIter<T, A, B> as Draw<T>>⟧
         ⟦<NotIter<T, SymDiffIter<T, A, B>> as Draw<T>>⟧ };
 
     fn not(self) -> Self::Output {
@@ -95,7 +95,8 @@ impl<T: Integer, I: Iterator<Item = RangeInclusive<T>>> Not for CheckSortedDisjo
 
     ghost can_not = { ⟦<CheckSortedDisjoint<T, I> as Draw<T>>⟧.can_draw };
 
-    ghost not_gives = { MakesComplement T.Integer.own ⟦<CheckSortedDisjoint<T, I> as Draw<T>>⟧
+    ghost not_gives = { MakesComplementUndrawn T.Integer.own
+        ⟦<CheckSortedDisjoint<T, I> as Draw<T>>⟧
         ⟦<NotIter<T, CheckSortedDisjoint<T, I>> as Draw<T>>⟧ };
 
     fn not(self) -> Self::Output {
@@ -108,7 +109,7 @@ impl<T: Integer> Not for RangeOnce<T> {
 
     ghost can_not = { ⟦<RangeOnce<T> as Draw<T>>⟧.can_draw };
 
-    ghost not_gives = { MakesComplement T.Integer.own ⟦<RangeOnce<T> as Draw<T>>⟧
+    ghost not_gives = { MakesComplementUndrawn T.Integer.own ⟦<RangeOnce<T> as Draw<T>>⟧
         ⟦<NotIter<T, RangeOnce<T>> as Draw<T>>⟧ };
 
     fn not(self) -> Self::Output {

@@ -1,9 +1,9 @@
 //! `Filter` over a stream is a stream: it gives the ranges that pass a test.
 
 ghost use Rattle.std.specs.Iterator.Adapters.{filter_source};
-ghost use Rattle.rsb_streams.specs.AdapterLaws.{filter-drawn, filter-sorted};
+ghost use Rattle.rsb_streams.specs.laws.Adapter.{filter-drawn, filter-sorted};
 ghost use Rattle.rsb_streams.specs.Adapters.{filter_draws};
-ghost use Rattle.rsb_streams.specs.PartLaws.{part-canonical, sublist-is_part};
+ghost use Rattle.rsb_streams.specs.laws.Part.{part-canonical, sublist-is_part};
 
 use crate::draw::Draw;
 use crate::sorted_disjoint::{DrawDisjoint, SortedDisjoint, SortedStarts};

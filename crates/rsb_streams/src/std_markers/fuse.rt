@@ -1,8 +1,8 @@
 //! `Fuse` over a stream is a stream: it does not call the stream again after its end.
 
-ghost use Rattle.rsb_streams.specs.AdapterLaws.{fuse-drawn, fuse-sorted};
+ghost use Rattle.rsb_streams.specs.laws.Adapter.{fuse-drawn, fuse-sorted};
 ghost use Rattle.rsb_streams.specs.Adapters.{fuse_draws};
-ghost use Rattle.rsb_streams.specs.PartLaws.{fuse-canonical};
+ghost use Rattle.rsb_streams.specs.laws.Part.{fuse-canonical};
 
 use crate::draw::Draw;
 use crate::sorted_disjoint::{DrawDisjoint, SortedDisjoint, SortedStarts};

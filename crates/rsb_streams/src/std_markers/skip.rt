@@ -1,9 +1,9 @@
 //! `Skip` over a stream is a stream: it leaves out the given number of ranges and gives the rest.
 
 ghost use Rattle.std.specs.Iterator.Adapters.{skip_count, skip_source};
-ghost use Rattle.rsb_streams.specs.AdapterLaws.{skip-drawn, skip-sorted};
+ghost use Rattle.rsb_streams.specs.laws.Adapter.{skip-drawn, skip-sorted};
 ghost use Rattle.rsb_streams.specs.Adapters.{skip_draws};
-ghost use Rattle.rsb_streams.specs.PartLaws.{part-canonical, skip-is_part};
+ghost use Rattle.rsb_streams.specs.laws.Part.{part-canonical, skip-is_part};
 
 use crate::draw::Draw;
 use crate::sorted_disjoint::{DrawDisjoint, SortedDisjoint, SortedStarts};

@@ -2,9 +2,9 @@
 //! after it.
 
 ghost use Rattle.std.specs.Iterator.Adapters.{skip_while_done_skipping, skip_while_source};
-ghost use Rattle.rsb_streams.specs.AdapterLaws.{skip_while-drawn, skip_while-sorted};
+ghost use Rattle.rsb_streams.specs.laws.Adapter.{skip_while-drawn, skip_while-sorted};
 ghost use Rattle.rsb_streams.specs.Adapters.{skip_while_draws};
-ghost use Rattle.rsb_streams.specs.PartLaws.{part-canonical, rest-is_part};
+ghost use Rattle.rsb_streams.specs.laws.Part.{part-canonical, rest-is_part};
 
 use crate::draw::Draw;
 use crate::sorted_disjoint::{DrawDisjoint, SortedDisjoint, SortedStarts};

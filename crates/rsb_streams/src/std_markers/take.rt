@@ -1,9 +1,9 @@
 //! `Take` over a stream is a stream: it gives the first ranges, up to the given number.
 
 ghost use Rattle.std.specs.Iterator.Adapters.{take_count, take_source};
-ghost use Rattle.rsb_streams.specs.AdapterLaws.{take-drawn, take-sorted};
+ghost use Rattle.rsb_streams.specs.laws.Adapter.{take-drawn, take-sorted};
 ghost use Rattle.rsb_streams.specs.Adapters.{take_draws};
-ghost use Rattle.rsb_streams.specs.PartLaws.{part-canonical, take-is_part};
+ghost use Rattle.rsb_streams.specs.laws.Part.{part-canonical, take-is_part};
 
 use crate::draw::Draw;
 use crate::sorted_disjoint::{DrawDisjoint, SortedDisjoint, SortedStarts};

@@ -1,9 +1,9 @@
 //! `TakeWhile` over a stream is a stream: it gives the ranges before the first that fails a test.
 
 ghost use Rattle.std.specs.Iterator.Adapters.{take_while_done, take_while_source};
-ghost use Rattle.rsb_streams.specs.AdapterLaws.{take_while-drawn, take_while-sorted};
+ghost use Rattle.rsb_streams.specs.laws.Adapter.{take_while-drawn, take_while-sorted};
 ghost use Rattle.rsb_streams.specs.Adapters.{take_while_draws};
-ghost use Rattle.rsb_streams.specs.PartLaws.{front-is_part, part-canonical};
+ghost use Rattle.rsb_streams.specs.laws.Part.{front-is_part, part-canonical};
 
 use crate::draw::Draw;
 use crate::sorted_disjoint::{DrawDisjoint, SortedDisjoint, SortedStarts};

@@ -13,7 +13,7 @@ use Rattle.rsb_integer.specs.Selection.{Selection, Agree, complement, difference
 use Rattle.rsb_integer.proofs.lemmas.Runs.{runs-along, runs-members}
 use Rattle.rsb_streams.specs.Lookahead.{at_side, undrawn_input, DrawsFew, Input, IsUndrawn, Left, LooksAhead, LooksAheadOfAll, Side}
 use Rattle.rsb_streams.specs.RunCount.{GivesFewerRunsThanBoth, GivesOneRunMoreAtMost, GivesRunsOfBothAtMost, HasAtMost}
-use Rattle.rsb_streams.specs.StreamLaws.{runs-exist, settled_le, settled_lt}
+use Rattle.rsb_streams.specs.laws.Stream.{runs-exist, settled_le, settled_lt}
 use Rattle.rsb_streams.specs.Stream.{Outcomes, ◌⊆◌, joined_runs, just, runs_by, runs_by_two}
 use Rattle.rsb_streams.specs.Union.{union_row, union_inputs, UnitesUndrawn}
 use Rattle.rsb_streams.specs.declared.draw.Draw.{Ghosts as Stream}

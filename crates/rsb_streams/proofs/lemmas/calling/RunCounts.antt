@@ -18,8 +18,8 @@ bounded-intersection : (n : ℕ) (left right runs : List Interval) → IsCanonic
     → IsCanonicalIn n right → AreRuns n (intersection (members left) (members right)) runs
     → HasFewerRunsThanBoth left right runs
 bounded-intersection n left right runs canonical also are =
-    let one = canonical-runs n left canonical.0 canonical.1 in
-    let other = canonical-runs n right also.0 also.1 in
+    let one = canonical-runs n left canonical.apart canonical.within in
+    let other = canonical-runs n right also.apart also.within in
     let both = intersection (members left) (members right) in (
       runs-none n (members left) both left runs one are
           (λ rank in_both. (and_parts (members left rank) (members right rank) in_both).0),
@@ -64,7 +64,7 @@ run_count-complement integer stream made of result =
     let n = integer.value_count in
     bounded-runs_by n HasOneRunMoreAtMost complement (stream.may_give of) (made.may_give result)
     (λ given runs canonical. runs-complement n (members given) given runs
-    (canonical-runs n given canonical.0 canonical.1))
+    (canonical-runs n given canonical.apart canonical.within))
 
 module _ {T N L R O : Type 0} (integer : Elements T N) (left : Stream L T N) (right : Stream R T N)
     (made : Stream O T N) (one : L) (other : R) (result : O) where
@@ -83,8 +83,8 @@ module _ {T N L R O : Type 0} (integer : Elements T N) (left : Stream L T N) (ri
       (λ these those rank. op (these rank) (those rank)) (left.may_give one) (right.may_give other)
       (made.may_give result)
       (λ these those runs canonical also. runs-of_one op none n (members these) (members those)
-      these those runs (canonical-runs n these canonical.0 canonical.1)
-      (canonical-runs n those also.0 also.1))
+      these those runs (canonical-runs n these canonical.apart canonical.within)
+      (canonical-runs n those also.apart also.within))
 
   -- An intersection has fewer runs than both.
   pub run_count-intersection : left.may_give one ⊆ IsCanonicalIn n

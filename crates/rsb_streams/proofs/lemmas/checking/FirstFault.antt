@@ -1,7 +1,7 @@
 -- The first position at which a list of ranges does not ascend, with or without gaps between.
 use Rattle.std.proofs.Common.{◌≡◌, ℕ, suc, ◌+◌, ◌<◌, ◌≤◌, true, false, nat_lt, List, [], ◌∷◌, ◌++◌, length, take, drop, get_or, refl, sym, ap, ◌∙◌, subst, arith}
 use Rattle.std.proofs.lemmas.List.{length-map, take-append-drop, take_all}
-use Rattle.std.proofs.lemmas.List.Elements.{All-nil, All-push}
+use Rattle.std.proofs.lemmas.List.Elements.{All-push}
 use Rattle.std.proofs.Math.ListN.{get_or-map}
 use Rattle.std.proofs.Math.Seq.{take-suc}
 use Rattle.std.specs.Range.{range_inclusive_end}
@@ -11,9 +11,11 @@ use Rattle.rsb_integer.specs.Rank.{interval_of, intervals_of}
 use Rattle.rsb_integer.specs.Runs.{Interval, AllEndBelow}
 use Rattle.rsb_streams.proofs.lemmas.sources.Known.{range-end}
 use Rattle.rsb_streams.specs.OutOfPlace.{start_after, IsFirstBad}
+use Rattle.rsb_streams.specs.Stream.{◌⊆◌}
 use Rattle.rsb_streams.specs.Touching.{IsSpacedFrom, IsSpacedIn}
 use Rattle.rsb_streams.proofs.lemmas.checking.Spaced.{spaced-append, spaced-front, spaced-parts, spaced_next, spaced_next-push}
 use borrow.Author.Tests.{ltb-false, ltb-true}
+use Rattle.rsb_streams.specs.laws.Stream.{spaced-none}
 
 -- A position that passed the test is within the list.
 pub place-within : (position n : ℕ) → true ≡ nat_lt position n → position < n
@@ -22,6 +24,15 @@ place-within position n is = ltb-true position n (sym is)
 -- A position that failed the test is at or past the end of the list.
 pub place-past : (position n : ℕ) → false ≡ nat_lt position n → n ≤ position
 place-past position n is = ltb-false position n (sym is)
+
+-- The first fault of a list is the same for laws that follow from each other.
+pub first_bad-along : {law other : List Interval → Type 0} {runs : List Interval} {position : ℕ}
+    → law ⊆ other → other ⊆ law → IsFirstBad law runs position → IsFirstBad other runs position
+first_bad-along {law} {other} {runs} {position} follows back bad = record {
+  within = bad.within;
+  before = follows (take position runs) bad.before;
+  broken = λ holds. bad.broken (back (take (position + 1) runs) holds);
+}
 
 module _ {T : Type 0} (rank : T → ℕ) (gap : ℕ) (n : ℕ)
     (ranges : List (RangeInclusive T)) where
@@ -40,7 +51,7 @@ module _ {T : Type 0} (rank : T → ℕ) (gap : ℕ) (n : ℕ)
   pub checked-none : IsChecked 0 None
   checked-none = record {
     within = omega arith;
-    before = (tt, All-nil (λ (run : Interval). run.last < n));
+    before = spaced-none gap n;
     next = refl;
   }
 
@@ -68,7 +79,7 @@ module _ {T : Type 0} (rank : T → ℕ) (gap : ℕ) (n : ℕ)
     follows-after spaced =
         subst (λ low. IsSpacedFrom gap low (run ∷ [])) checked.next
         (spaced-parts gap 0 (take position runs) (run ∷ [])
-        (subst (IsSpacedFrom gap 0) one-more spaced.0)).1
+        (subst (IsSpacedFrom gap 0) one-more spaced.spaced)).1
 
     -- If the range may not follow those before it, it is the first fault.
     pub bad-here : ¬ (IsSpacedFrom gap (start_after rank gap previous) (run ∷ []))
@@ -83,7 +94,7 @@ module _ {T : Type 0} (rank : T → ℕ) (gap : ℕ) (n : ℕ)
     pub below-here : run.last < n → AllEndBelow n (take (position + 1) runs)
     below-here below =
         rw one-more (All-push (λ (each : Interval). each.last < n) (take position runs) run
-        checked.before.1 below)
+        checked.before.within below)
 
     -- If the range may follow those before it and is within the type, `IsChecked` holds at the next
     -- position.
@@ -94,13 +105,13 @@ module _ {T : Type 0} (rank : T → ℕ) (gap : ℕ) (n : ℕ)
         let low = subst (λ low. IsSpacedFrom gap low (run ∷ [])) (sym checked.next) spaced in
         record {
           within = omega (arith, within);
-          before = rw one-more (
-            spaced-append gap 0 (take position runs) (run ∷ []) checked.before.0 low,
-            All-push (λ (each : Interval). each.last < n) (take position runs) run checked.before.1
-                below,
-          );
+          before = rw one-more (record {
+            spaced = spaced-append gap 0 (take position runs) (run ∷ []) checked.before.spaced low;
+            within = All-push (λ (each : Interval). each.last < n) (take position runs) run
+                checked.before.within below;
+          });
           next = rw one-more (spaced_next-push gap 0 (take position runs) run
-              ∙ ap (λ last. last + gap) (range-end rank range spaced.1 ∙ sym (ap rank is)));
+              ∙ ap (λ last. last + gap) (range-end rank range spaced.in_order ∙ sym (ap rank is)));
         }
 
   -- A list that ascends does so up to each position.

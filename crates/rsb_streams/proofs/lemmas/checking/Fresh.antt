@@ -23,11 +23,11 @@ one-if_some run ordered =
 -- A single non-empty interval within the type is canonical.
 pub one-canonical : (n : ℕ) (run : Interval) → run.first ≤ run.last → run.last < n
     → IsCanonicalIn n (run ∷ [])
-one-canonical n run ordered below = (
-  (omega arith, ordered, tt),
-  All-cons (λ (each : Interval). each.last < n) run [] below
-      (All-nil (λ (each : Interval). each.last < n)),
-)
+one-canonical n run ordered below = record {
+  apart = record { starts = omega arith; in_order = ordered; rest = tt };
+  within = All-cons (λ (each : Interval). each.last < n) run [] below
+      (All-nil (λ (each : Interval). each.last < n));
+}
 
 -- A stream that was just put into a `Fuse`.
 module _ {S : Type 0} (source : S) (s : Fuse S) (is : fuse_source s ≡ source)

@@ -3,7 +3,7 @@ use Rattle.std.proofs.Common.{◌≡◌, ℕ, ◌+◌, List, [], ◌∷◌, ◌+
 use Rattle.std.proofs.lemmas.List.Elements.{All-tail}
 use Rattle.rsb_integer.specs.Runs.{Interval}
 use Rattle.rsb_integer.proofs.lemmas.List.{All-front}
-use Rattle.rsb_streams.specs.StreamLaws.{spaced-weaker}
+use Rattle.rsb_streams.specs.laws.Stream.{spaced-weaker}
 use Rattle.rsb_streams.specs.Touching.{IsSpacedFrom, IsSpacedIn}
 
 -- The first rank at which a spaced list may continue after these intervals.
@@ -23,8 +23,8 @@ pub spaced-parts : (gap low : ℕ) (runs others : List Interval)
     → IsSpacedFrom gap low runs × IsSpacedFrom gap (spaced_next gap low runs) others
 spaced-parts gap low [] others spaced = (tt, spaced)
 spaced-parts gap low (run ∷ runs) others spaced =
-    let parts = spaced-parts gap (run.last + gap) runs others spaced.2 in
-    ((spaced.0, spaced.1, parts.0), parts.1)
+    let parts = spaced-parts gap (run.last + gap) runs others spaced.rest in
+    (record { starts = spaced.starts; in_order = spaced.in_order; rest = parts.0 }, parts.1)
 
 -- Two spaced lists put together are spaced, if the second is spaced from where the first may
 -- continue.
@@ -33,20 +33,25 @@ pub spaced-append : (gap low : ℕ) (runs others : List Interval) → IsSpacedFr
     → IsSpacedFrom gap low (runs ++ others)
 spaced-append gap low [] others front rest = rest
 spaced-append gap low (run ∷ runs) others front rest =
-    (front.0, front.1, spaced-append gap (run.last + gap) runs others front.2 rest)
+    record {
+      starts = front.starts;
+      in_order = front.in_order;
+      rest = spaced-append gap (run.last + gap) runs others front.rest rest;
+    }
 
 -- A prefix of a spaced list is spaced.
 pub spaced-front : (gap n : ℕ) (runs others : List Interval) → IsSpacedIn gap n (runs ++ others)
     → IsSpacedIn gap n runs
-spaced-front gap n runs others spaced = (
-  (spaced-parts gap 0 runs others spaced.0).0,
-  All-front (λ (run : Interval). run.last < n) runs others spaced.1,
-)
+spaced-front gap n runs others spaced = record {
+  spaced = (spaced-parts gap 0 runs others spaced.spaced).0;
+  within = All-front (λ (run : Interval). run.last < n) runs others spaced.within;
+}
 
 -- A spaced list without its first interval is spaced.
 pub spaced-tail : (gap n : ℕ) (run : Interval) (runs : List Interval) → IsSpacedIn gap n (run ∷ runs)
     → IsSpacedIn gap n runs
-spaced-tail gap n run runs spaced = (
-  spaced-weaker gap gap (run.last + gap) 0 runs (omega arith) (omega arith) spaced.0.2,
-  All-tail (λ (other : Interval). other.last < n) run runs spaced.1,
-)
+spaced-tail gap n run runs spaced = record {
+  spaced = spaced-weaker gap gap (run.last + gap) 0 runs (omega arith) (omega arith)
+      spaced.spaced.rest;
+  within = All-tail (λ (other : Interval). other.last < n) run runs spaced.within;
+}

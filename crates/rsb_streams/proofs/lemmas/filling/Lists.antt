@@ -139,8 +139,8 @@ fills-end n last [] is below canonical = record {
   gaps = no-gaps n (members []);
 }
 fills-end n last (run ∷ given) is below canonical =
-    let starts = canonical.0 in
-    let ordered = canonical.1 in
+    let starts = canonical.starts in
+    let ordered = canonical.in_order in
     let under = All-head (λ (each : Interval). each.last < n) run given below in
     absurd (omega arith)
 
@@ -150,7 +150,7 @@ pub fills-all : (n : ℕ) (given : List Interval) (pairs : List (Interval × Boo
 fills-all n given pairs canonical fills = record {
   ascending = fills.ascending;
   runs = subst (AreRuns n (members given)) (sym fills.all_runs)
-      (canonical-runs n given canonical.0 canonical.1);
+      (canonical-runs n given canonical.apart canonical.within);
   gaps = runs-along n (gaps_from 0 (members given)) (complement (members given))
       (marked_gaps pairs) (λ rank within. gaps-above 0 rank (members given) (omega arith))
       fills.gaps;

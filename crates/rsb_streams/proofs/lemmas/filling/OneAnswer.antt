@@ -12,7 +12,7 @@ use Rattle.rsb_integer.specs.Runs.{Interval, IsCanonicalFrom, IsCanonicalIn}
 use Rattle.rsb_integer.proofs.lemmas.Canonical.{canonical-lower}
 use Rattle.rsb_streams.specs.FillGapsIter.{FilledOutcomes, FillsFrom, values_from, FillSteps, GivesFilled, fill_can_next, fill_may_give, fill_remaining, fills_after}
 use Rattle.rsb_streams.specs.NotIter.{NotReady}
-use Rattle.rsb_streams.specs.StreamLaws.{canonical-sorted, sorted-below}
+use Rattle.rsb_streams.specs.laws.Stream.{canonical-sorted, sorted-below}
 use Rattle.rsb_streams.specs.PutBack.{put_back, IsFresh, IsPutBack}
 use Rattle.rsb_streams.specs.Stream.{◌⊆◌, SomeOutcome}
 use Rattle.rsb_streams.specs.declared.fill_gaps_iter.FillGapsIter.{FillGapsIter}
@@ -21,7 +21,7 @@ use Rattle.rsb_streams.proofs.lemmas.filling.Lists.{fills-all, fills-end, fills-
 use Rattle.rsb_streams.proofs.lemmas.checking.Comparisons.{next-value}
 use Rattle.rsb_streams.proofs.lemmas.gaps.Loop.{answered}
 use Rattle.rsb_streams.proofs.lemmas.sources.Known.{IsLawful, fresh-may, fresh-ready, put_back-lawful, put_back-may, put_back-ready, range-end, range-start}
-use Rattle.rsb_streams.proofs.lemmas.joining.Gathered.{head-sorted}
+use Rattle.rsb_streams.proofs.lemmas.joining.Gathered.{head-sorted, LiesFrom}
 
 module _ {I T N : Type 0} (integer : Elements T N) (source : Stream I T N) where
   open integer use {rank, value_count as n}
@@ -58,10 +58,10 @@ module _ {I T N : Type 0} (integer : Elements T N) (source : Stream I T N) where
     pub fresh-can : source.can_draw iter → 2 ≤ n → can s
     fresh-can drawable some = subst (λ start. can (state s.iter start)) (sym begins) (record {
       callable = fresh-ready integer source iter s.iter fresh drawable (λ runs at.
-          let all = canonical runs at in canonical-sorted n 0 runs all.0 all.1);
+          let all = canonical runs at in canonical-sorted n 0 runs all.apart all.within);
       value = omega (arith, is_least, some);
       ahead = λ runs at. subst (λ from. IsCanonicalFrom from runs) (sym is_least)
-          (canonical runs (fresh-may integer source iter s.iter fresh runs at)).0;
+          (canonical runs (fresh-may integer source iter s.iter fresh runs at)).apart;
     })
 
     -- The iterator gives the filled list of what the stream may give.
@@ -133,36 +133,40 @@ module _ {I T N : Type 0} (integer : Elements T N) (source : Stream I T N) where
 
         -- The range, followed by what may come after it, might come before, and is canonical.
         comes : (rest : List Interval) → held.may_give j rest
-            → held.may_give i (run ∷ rest) × IsCanonicalFrom (rank start) (run ∷ rest)
-            × IsCanonicalIn n (run ∷ rest)
+            → record {
+              before : held.may_give i (run ∷ rest);
+              ahead : IsCanonicalFrom (rank start) (run ∷ rest);
+              canonical : IsCanonicalIn n (run ∷ rest);
+            }
         comes rest at =
             let before = held_laws.answers i j (Some range) call rest at in
             let ahead = ready.ahead (run ∷ rest) before in
-            let sorted = (held_laws.sorted i ready.callable).all (run ∷ rest) before in (
-              before,
-              ahead,
-              (
-                canonical-lower (rank start) 0 (run ∷ rest) (omega arith) ahead,
-                sorted-below n 0 (run ∷ rest) sorted,
-              ),
-            )
+            let sorted = (held_laws.sorted i ready.callable).all (run ∷ rest) before in
+            record {
+              before = before;
+              ahead = ahead;
+              canonical = record {
+                apart = canonical-lower (rank start) 0 (run ∷ rest) (omega arith) ahead;
+                within = sorted-below n 0 (run ∷ rest) sorted;
+              };
+            }
 
         -- The range is non-empty, within the type, and starts no earlier than the gap might.
-        facts : (rank start ≤ run.first) × (run.first ≤ run.last) × (run.last < n)
+        facts : LiesFrom n (rank start) run
         facts = head-sorted n (rank start) run (held.may_give j) (held_laws.sorted j goes.keeps).some
             (λ rest at. let all = comes rest at in
-            canonical-sorted n (rank start) (run ∷ rest) all.1 all.2.1)
+            canonical-sorted n (rank start) (run ∷ rest) all.ahead all.canonical.within)
 
         -- The range starts at the rank of its start.
         low : run.first ≡ rank (range_inclusive_start range)
-        low = range-start rank range facts.1
+        low = range-start rank range facts.in_order
 
         -- The start of the gap and the start of the range are values of the type.
         pub values : (rank start < n) × (rank (range_inclusive_start range) < n)
         values =
             let all = facts in
             let first = low in
-            (ready.value, omega (arith, all.1, all.2, first))
+            (ready.value, omega (arith, all.in_order, all.in_type, first))
 
         -- There is a gap before the range, which is put back.
         module _ (w : PutBack T I) (put : IsPutBack range j w) (next : T)
@@ -175,15 +179,19 @@ module _ {I T N : Type 0} (integer : Elements T N) (source : Stream I T N) where
           ready-run : can (state w (Some next))
           ready-run = record {
             callable = put_back-ready integer source range j w call.room put goes.keeps
-                (λ rest at. ready.callable.sorted (run ∷ rest) (comes rest at).0);
+                (λ rest at. ready.callable.sorted (run ∷ rest) (comes rest at).before);
             value = let all = facts in let is_first = first in
-                omega (arith, all.1, all.2, is_first);
+                omega (arith, all.in_order, all.in_type, is_first);
             ahead = λ runs at.
                 let found = put_back-may integer source range j w runs call.room put at in
-                let canonical = (comes found.0 found.1).1 in
+                let canonical = (comes found.rest found.given).ahead in
                 let is_first = first in
-                subst (IsCanonicalFrom (rank next)) (sym found.2)
-                (omega (arith, is_first), canonical.1, canonical.2);
+                subst (IsCanonicalFrom (rank next)) (sym found.is)
+                (record {
+                  starts = omega (arith, is_first);
+                  in_order = canonical.in_order;
+                  rest = canonical.rest;
+                });
           }
 
           -- The gap comes first.
@@ -198,16 +206,16 @@ module _ {I T N : Type 0} (integer : Elements T N) (source : Stream I T N) where
               answers-at (answer, false) (state w (Some next)) (λ rest at nothing.
               at (λ given might fills.
               let found = put_back-may integer source range j w given call.room put might in
-              let canonical = (comes found.0 found.1).1 in
-              let fills_run : FillsFrom n run.first (run ∷ found.0) rest =
-              subst (λ each. FillsFrom n run.first each rest) found.2
+              let canonical = (comes found.rest found.given).ahead in
+              let fills_run : FillsFrom n run.first (run ∷ found.rest) rest =
+              subst (λ each. FillsFrom n run.first each rest) found.is
               (subst (λ each. FillsFrom n each given rest) (sym is_first) fills) in
-              nothing (run ∷ found.0) (comes found.0 found.1).0
-              (subst (λ each. FillsFrom n (rank start) (run ∷ found.0) ((each, false) ∷ rest))
+              nothing (run ∷ found.rest) (comes found.rest found.given).before
+              (subst (λ each. FillsFrom n (rank start) (run ∷ found.rest) ((each, false) ∷ rest))
               (sym gap)
-              (fills-gap n (record { first = rank start; last = rank last }) run found.0 rest
-              (omega (arith, less, is_first)) all.1 all.2 (omega (arith, one, is_first))
-              canonical.2 fills_run))))
+              (fills-gap n (record { first = rank start; last = rank last }) run found.rest rest
+              (omega (arith, less, is_first)) all.in_order all.in_type (omega (arith, one, is_first))
+              canonical.rest fills_run))))
 
           -- Fewer values are left from the range onwards.
           pub gap-goes : (answer : RangeInclusive T)
@@ -229,11 +237,11 @@ module _ {I T N : Type 0} (integer : Elements T N) (source : Stream I T N) where
             (more : IfSome next (λ each. rank each ≡ rank end + 1)) where
           -- The range starts at the value where a gap might.
           first-is : run.first ≡ rank start
-          first-is = let all = facts in let is_low = low in omega (arith, all.0, is_low, most)
+          first-is = let all = facts in let is_low = low in omega (arith, all.starts, is_low, most)
 
           -- The range ends at the rank of its end.
           last-is : run.last ≡ rank end
-          last-is = range-end rank range facts.1 ∙ sym (ap rank to)
+          last-is = range-end rank range facts.in_order ∙ sym (ap rank to)
 
           -- What may come after the range are the runs and gaps past it.
           after-run : (next : Option T) → (IsNone next ↔ (rank end + 1 ≡ n))
@@ -242,10 +250,10 @@ module _ {I T N : Type 0} (integer : Elements T N) (source : Stream I T N) where
               → SomeOutcome (held.may_give j) (λ given. FillsFrom n (run.last + 1) given rest)
           after-run None none more rest at = λ nothing.
               (held_laws.sorted j goes.keeps).some (λ given might.
-              let all = (comes given might).2 in
+              let canonical = (comes given might).canonical in
               let top : run.last + 1 ≡ n = omega (arith, last-is, none.0 refl) in
-              let tail = All-tail (λ (each : Interval). each.last < n) run given all.1 in
-              nothing given might (rw (at, top) (fills-end n run.last given top tail all.0.2)))
+              let tail = All-tail (λ (each : Interval). each.last < n) run given canonical.within in
+              nothing given might (rw (at, top) (fills-end n run.last given top tail canonical.apart.rest)))
           after-run (Some each) none more rest at =
               let past : rank each ≡ run.last + 1 = omega (arith, last-is, more) in
               subst (λ from. SomeOutcome (held.may_give j) (λ given. FillsFrom n from given rest))
@@ -255,9 +263,9 @@ module _ {I T N : Type 0} (integer : Elements T N) (source : Stream I T N) where
           pub run-answers : Answered (state i now) (Some (range, true)) (state j next)
           run-answers = answers-at (range, true) (state j next) (λ rest at nothing.
               after-run next none more rest at (λ given might fills.
-              nothing (run ∷ given) (comes given might).0
+              nothing (run ∷ given) (comes given might).before
               (subst (λ from. FillsFrom n from (run ∷ given) ((run, true) ∷ rest)) first-is
-              (fills-run n run given rest facts.1 fills))))
+              (fills-run n run given rest facts.in_order fills))))
 
           -- The stream is ready for what comes past the range.
           ready-past : (next : Option T) → (IsNone next ↔ (rank end + 1 ≡ n))
@@ -268,10 +276,10 @@ module _ {I T N : Type 0} (integer : Elements T N) (source : Stream I T N) where
               let is_last = last-is in
               record {
                 callable = goes.keeps;
-                value = next-value n (rank end) (rank each) (omega (arith, all.2, is_last))
+                value = next-value n (rank end) (rank each) (omega (arith, all.in_type, is_last))
                     (λ top. let no = none.1 top in absurd (cc)) more;
                 ahead = λ rest at. canonical-lower (run.last + 2) (rank each) rest
-                    (omega (arith, more, is_last)) (comes rest at).1.2;
+                    (omega (arith, more, is_last)) (comes rest at).ahead.rest;
               }
 
           -- Fewer values are left past the range.
@@ -283,7 +291,7 @@ module _ {I T N : Type 0} (integer : Elements T N) (source : Stream I T N) where
               let all = facts in
               let is_first = first-is in
               let is_last = last-is in
-              omega (arith, begin, all.1, all.2, is_first, is_last, more)
+              omega (arith, begin, all.in_order, all.in_type, is_first, is_last, more)
 
           -- So the call makes progress.
           pub run-goes : MakesProgress {A = RangeInclusive T × Bool} can (fill_remaining integer) (state i now)

@@ -85,14 +85,13 @@ gap-then n low gap run given runs less ordered below from to canonical all =
     let later = gaps_from (run.last + 1) (members given) in
     let starts = runs-start n later (run.last + 1) runs all
     (λ rank within here. gaps-start (run.last + 1) rank (members given) here) in
-    runs-from_canonical n (gaps_from low (members (run ∷ given))) (gap ∷ runs) (
-      omega arith,
-      omega arith,
-      canonical-lower (run.last + 1) (gap.last + 2) runs (omega arith)
-          starts,
-    )
+    runs-from_canonical n (gaps_from low (members (run ∷ given))) (gap ∷ runs) (record {
+      starts = omega arith;
+      in_order = omega arith;
+      rest = canonical-lower (run.last + 1) (gap.last + 2) runs (omega arith) starts;
+    })
     (All-cons (λ (each : Interval). each.last < n) gap runs (omega arith)
-    (runs-canonical n later runs all).1)
+    (runs-canonical n later runs all).within)
     (λ rank within. elim (cases_lt run.last rank) [
       | inl past ↦
           members-tail gap runs rank (inr (omega arith)) ∙ runs-members n later runs all rank within
@@ -127,7 +126,8 @@ no-gaps n selected =
 pub gap-last : (n low : ℕ) (gap : Interval) → gap.first ≡ low → low ≤ gap.last → gap.last + 1 ≡ n
     → AreRuns n (gaps_from low (members [])) (gap ∷ [])
 gap-last n low gap from order to =
-    runs-from_canonical n (gaps_from low (members [])) (gap ∷ []) (omega arith, omega arith, tt)
+    runs-from_canonical n (gaps_from low (members [])) (gap ∷ [])
+    (record { starts = omega arith; in_order = omega arith; rest = tt })
     (All-cons (λ (each : Interval). each.last < n) gap [] (omega arith)
     (All-nil (λ (run : Interval). run.last < n)))
     (λ rank within. elim (cases_lt rank low) [
@@ -151,7 +151,7 @@ module _ {T N I : Type 0} (integer : Elements T N) (source : Stream I T N) (iter
   fresh-ready ready some canonical = record {
     callable = ready;
     value = omega arith;
-    ahead = λ runs at. subst (λ low. IsCanonicalFrom low runs) (sym is) (canonical runs at).0;
+    ahead = λ runs at. subst (λ low. IsCanonicalFrom low runs) (sym is) (canonical runs at).apart;
   }
 
   -- The gaps from the least value onwards are the complement.

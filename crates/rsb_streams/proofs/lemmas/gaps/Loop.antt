@@ -11,7 +11,7 @@ use Rattle.rsb_integer.specs.Runs.{Interval, members, IsCanonicalIn, AreRuns}
 use Rattle.rsb_integer.proofs.lemmas.Canonical.{canonical-lower}
 use Rattle.rsb_integer.proofs.lemmas.Runs.{runs-along}
 use Rattle.rsb_streams.specs.NotIter.{gaps_after, not_iter, NotReady}
-use Rattle.rsb_streams.specs.StreamLaws.{canonical-sorted, sorted-below}
+use Rattle.rsb_streams.specs.laws.Stream.{canonical-sorted, sorted-below}
 use Rattle.rsb_streams.specs.Stream.{Outcomes, ◌⊆◌, just, gaps_from, runs_by, HasSortedStartsFrom, SomeOutcome}
 use Rattle.rsb_streams.specs.declared.not_iter.NotIter.{NotIter}
 use Rattle.std.specs.Ordering.{partial_lt}
@@ -20,7 +20,7 @@ use Rattle.rsb_streams.proofs.lemmas.checking.Comparisons.{IsRanked, less-rank, 
 use Rattle.rsb_streams.proofs.lemmas.lookahead.EachCall.{yields-more}
 use Rattle.rsb_streams.proofs.lemmas.gaps.Lists.{gap-then, gap-last, gaps-along, no-gaps}
 use Rattle.rsb_streams.proofs.lemmas.sources.Known.{IsLawful, range-start, range-end}
-use Rattle.rsb_streams.proofs.lemmas.joining.Gathered.{head-sorted}
+use Rattle.rsb_streams.proofs.lemmas.joining.Gathered.{head-sorted, LiesFrom}
 
 module _ {I T N : Type 0} (integer : Elements T N) (source : Stream I T N) where
   open integer use {rank, value_count as n}
@@ -147,24 +147,31 @@ module _ {I T N : Type 0} (integer : Elements T N) (source : Stream I T N) where
 
       -- The range and what comes after it are canonical, and start no earlier than the gap may.
       comes : (rest : List Interval) → source.may_give j rest
-          → IsCanonicalIn n (run ∷ rest) × HasSortedStartsFrom n (rank start) (run ∷ rest)
+          → record {
+            canonical : IsCanonicalIn n (run ∷ rest);
+            sorted : HasSortedStartsFrom n (rank start) (run ∷ rest);
+          }
       comes rest at =
           let before = laws.answers i j (Some range) call rest at in
           let ahead = so.ready.ahead (run ∷ rest) before in
           let sorted = (laws.sorted i so.ready.callable).all (run ∷ rest) before in
-          let below = sorted-below n 0 (run ∷ rest) sorted in (
-            (canonical-lower (rank start) 0 (run ∷ rest) (omega arith) ahead, below),
-            canonical-sorted n (rank start) (run ∷ rest) ahead below,
-          )
+          let below = sorted-below n 0 (run ∷ rest) sorted in
+          record {
+            canonical = record {
+              apart = canonical-lower (rank start) 0 (run ∷ rest) (omega arith) ahead;
+              within = below;
+            };
+            sorted = canonical-sorted n (rank start) (run ∷ rest) ahead below;
+          }
 
       -- The range is non-empty, within the type, and starts no earlier than the gap may.
-      facts : (rank start ≤ run.first) × (run.first ≤ run.last) × (run.last < n)
+      facts : LiesFrom n (rank start) run
       facts = head-sorted n (rank start) run (source.may_give j) (laws.sorted j goes.keeps).some
-          (λ rest at. (comes rest at).1)
+          (λ rest at. (comes rest at).sorted)
 
       -- The range starts at the rank of `past_gap`.
       starts-at : run.first ≡ rank past_gap
-      starts-at = range-start rank range facts.1 ∙ sym (ap rank from)
+      starts-at = range-start rank range facts.in_order ∙ sym (ap rank from)
 
       -- Values compare as their ranks do.
       module _ {partial_cmp : T → T → Option Ordering} {cmp : T → T → Ordering}
@@ -175,7 +182,7 @@ module _ {I T N : Type 0} (integer : Elements T N) (source : Stream I T N) where
 
         -- The range starts at a value of the type.
         high : rank past_gap < n
-        high = let all = facts in omega (arith, all.1, all.2, starts-at)
+        high = let all = facts in omega (arith, all.in_order, all.in_type, starts-at)
 
         -- If the start of the gap is less than that of the range, so is its rank.
         pub gap-less : true ≡ partial_lt partial_cmp start past_gap → rank start < rank past_gap
@@ -187,7 +194,7 @@ module _ {I T N : Type 0} (integer : Elements T N) (source : Stream I T N) where
 
       -- The range ends at the rank of its end.
       last-is : run.last ≡ rank end
-      last-is = range-end rank range facts.1 ∙ sym (ap rank to)
+      last-is = range-end rank range facts.in_order ∙ sym (ap rank to)
 
       -- The complement is ready at the next start.
       pub ready-next : can (record { iter = j; start = next })
@@ -199,7 +206,7 @@ module _ {I T N : Type 0} (integer : Elements T N) (source : Stream I T N) where
               → can (record { iter = j; start = next })
           ready-by None none some = tt
           ready-by (Some each) none some =
-              let below = facts.2 in
+              let below = facts.in_type in
               let is = last-is in
               record {
                 callable = goes.keeps;
@@ -207,7 +214,7 @@ module _ {I T N : Type 0} (integer : Elements T N) (source : Stream I T N) where
                     (λ top. let no = none.1 top in absurd (cc)) some;
                 ahead = λ rest at. canonical-lower (run.last + 2) (rank each) rest
                     (omega (arith, some, is))
-                    (comes rest at).0.0.2;
+                    (comes rest at).canonical.apart.rest;
               }
 
       -- What may come after the range are the gaps past it.
@@ -245,9 +252,9 @@ module _ {I T N : Type 0} (integer : Elements T N) (source : Stream I T N) where
                 after-next rest at (λ given might runs. nothing (run ∷ given)
                 (laws.answers i j (Some range) call given might)
                 (gap-then n (rank start) (interval_of rank answer) run given rest
-                (omega (arith, less, low)) all.1 all.2
+                (omega (arith, less, low)) all.in_order all.in_type
                 (ap (λ each. each.first) gap) (ap (λ each. each.last + 1) gap ∙ one ∙ sym low)
-                (comes given might).0.0.2 runs)));
+                (comes given might).canonical.apart.rest runs)));
             rests = tt;
             asks =
                 let took = took-more entry i j now range so_now call in
@@ -264,7 +271,7 @@ module _ {I T N : Type 0} (integer : Elements T N) (source : Stream I T N) where
           (laws.answers i j (Some range) call given might)
           (runs-along n (gaps_from (run.last + 1) (members given))
           (gaps_from (rank start) (members (run ∷ given))) rest
-          (gaps-along n (rank start) run given (omega (arith, all.0, low, most)) all.1) runs)))
+          (gaps-along n (rank start) run given (omega (arith, all.starts, low, most)) all.in_order) runs)))
 
       -- Fewer gaps are left at the next start.
       fewer : (finite : IsFinite (source.draws_left i))

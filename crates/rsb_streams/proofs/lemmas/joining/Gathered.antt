@@ -8,8 +8,9 @@ use Rattle.rsb_integer.specs.Selection.{Selection}
 use Rattle.rsb_integer.proofs.lemmas.List.{not_both}
 use Rattle.rsb_integer.proofs.lemmas.Members.{covers-inside, members-cons}
 use Rattle.rsb_integer.proofs.lemmas.Runs.{runs-canonical, runs-from_canonical, runs-members}
-use Rattle.rsb_streams.specs.StreamLaws.{settled_le, settled_lt, sorted-lower, sorted-members}
+use Rattle.rsb_streams.specs.laws.Stream.{settled_le, settled_lt, sorted-lower, sorted-members}
 use Rattle.rsb_streams.specs.Stream.{Outcomes, ◌⊆◌, just, joined_runs, HasOutcome, SomeOutcome, HasSortedStartsFrom, HasSortedStarts}
+use Rattle.rsb_streams.specs.laws.Merge.{sorted-raise}
 
 -- If a set selects no rank below `low`, its runs start at `low` or later.
 pub runs-start : (n : ℕ) (selected : Selection) (low : ℕ) (runs : List Interval)
@@ -20,12 +21,13 @@ runs-start n selected low (run ∷ runs) all from =
     let canonical = runs-canonical n selected (run ∷ runs) all in
     let maximal = All-head (IsMaximalRun n selected) run runs all.maximal in
     let ordered = maximal.in_order in
-    let below = maximal.in_type in (
-      from run.first (omega arith)
-          (maximal.whole run.first (covers-inside run run.first (omega arith) ordered)),
-      ordered,
-      canonical.0.2,
-    )
+    let below = maximal.in_type in
+    record {
+      starts = from run.first (omega arith)
+          (maximal.whole run.first (covers-inside run run.first (omega arith) ordered));
+      in_order = ordered;
+      rest = canonical.apart.rest;
+    }
 
 -- The runs of a run and of what comes past it, with a gap between, are that run and the runs of the
 -- rest.
@@ -36,13 +38,13 @@ pub run-then : (n : ℕ) (run : Interval) (given late runs : List Interval) → 
     → AreRuns n (members late) runs → AreRuns n (members given) (run ∷ runs)
 run-then n run given late runs ordered below same past all =
     let canonical = runs-canonical n (members late) runs all in
-    runs-from_canonical n (members given) (run ∷ runs) (
-      omega arith,
-      ordered,
-      runs-start n (members late) (run.last + 2) runs all
-          (λ rank within. past rank),
-    )
-    (All-cons (λ (each : Interval). each.last < n) run runs below canonical.1)
+    runs-from_canonical n (members given) (run ∷ runs) (record {
+      starts = omega arith;
+      in_order = ordered;
+      rest = runs-start n (members late) (run.last + 2) runs all
+          (λ rank within. past rank);
+    })
+    (All-cons (λ (each : Interval). each.last < n) run runs below canonical.within)
     (λ rank within.
     members-cons run runs rank
     ∙ ap (λ test. covers run rank || test) (runs-members n (members late) runs all rank within)
@@ -66,15 +68,22 @@ join-covers : (rank : ℕ) (run next : Interval) → run.first ≤ next.first �
     ≡ covers (record { first = run.first; last = max run.last next.last }) rank
 join-covers rank run next low touching ordered order = grind (arith, nat_tests)
 
--- What is known of a first range: it starts at `low` or later, is non-empty and within the type.
+-- Whether the interval is non-empty, within a type of n values, and starts at `low` or later.
+pub record LiesFrom (n low : ℕ) (run : Interval) : Type 0 where
+  pub starts : low ≤ run.first
+  pub in_order : run.first ≤ run.last
+  pub in_type : run.last < n
+
+-- This holds of the first range of a list sorted by start, whatever comes after it.
 pub head-sorted : (n low : ℕ) (run : Interval) (Rest : Outcomes) → HasOutcome Rest
     → ((rest : List Interval) → Rest rest → HasSortedStartsFrom n low (run ∷ rest))
-    → (low ≤ run.first) × (run.first ≤ run.last) × (run.last < n)
-head-sorted n low run Rest some sorted = (
-  settled_le low run.first (λ fails. some (λ rest may. fails (sorted rest may).0)),
-  settled_le run.first run.last (λ fails. some (λ rest may. fails (sorted rest may).1)),
-  settled_lt run.last n (λ fails. some (λ rest may. fails (sorted rest may).2)),
-)
+    → LiesFrom n low run
+head-sorted n low run Rest some sorted = record {
+  starts = settled_le low run.first (λ fails. some (λ rest may. fails (sorted rest may).starts));
+  in_order = settled_le run.first run.last
+      (λ fails. some (λ rest may. fails (sorted rest may).in_order));
+  in_type = settled_lt run.last n (λ fails. some (λ rest may. fails (sorted rest may).in_type));
+}
 
 -- Whether the ranges drawn so far cover the run, and what may still come starts no earlier.
 -- `Before` is what could come when the draw began, `Now` what can come now.
@@ -93,9 +102,9 @@ pub gathers-first : (n : ℕ) (Before Now : Outcomes) (run : Interval) → Befor
 gathers-first n Before Now run sorted some answers =
     let facts = head-sorted n 0 run Now some (λ rest may. sorted (run ∷ rest) (answers rest may)) in
     record {
-      ordered = facts.1;
-      below = facts.2;
-      sorted = λ rest may. (sorted (run ∷ rest) (answers rest may)).3;
+      ordered = facts.in_order;
+      below = facts.in_type;
+      sorted = λ rest may. (sorted (run ∷ rest) (answers rest may)).rest;
       comes = λ rest may nothing. nothing (run ∷ rest) (answers rest may) (members-cons run rest);
     }
 
@@ -104,7 +113,7 @@ module _ (n : ℕ) (Before Now After : Outcomes) (run next : Interval)
     (some : HasOutcome After)
     (answers : (rest : List Interval) → After rest → Now (next ∷ rest)) where
   -- The next range is non-empty, within the type, and starts no earlier than the run.
-  pub next-sorted : (run.first ≤ next.first) × (next.first ≤ next.last) × (next.last < n)
+  pub next-sorted : LiesFrom n run.first next
   next-sorted = head-sorted n run.first next After some
       (λ rest may. gathers.sorted (next ∷ rest) (answers rest may))
 
@@ -113,16 +122,16 @@ module _ (n : ℕ) (Before Now After : Outcomes) (run next : Interval)
       → Gathers n Before After (record { first = run.first; last = max run.last next.last })
   gathers-more touching =
       let facts = next-sorted in
-      let low = facts.0 in
-      let order = facts.1 in
-      let below = facts.2 in
+      let low = facts.starts in
+      let order = facts.in_order in
+      let below = facts.in_type in
       let ordered = gathers.ordered in
       let within = gathers.below in
       record {
         ordered = omega arith;
         below = omega arith;
         sorted = λ rest may. sorted-lower n next.first run.first rest low
-            (gathers.sorted (next ∷ rest) (answers rest may)).3;
+            (gathers.sorted (next ∷ rest) (answers rest may)).rest;
         comes = λ rest may nothing. gathers.comes (next ∷ rest) (answers rest may)
             (λ given before same.
             nothing given before (λ rank.
@@ -151,5 +160,5 @@ pub next-past : (n : ℕ) (next : Interval) (rest : List Interval) (low end rank
     → end + 2 ≤ rank
 next-past n next rest low end rank sorted apart member =
     let from = sorted-members n next.first (next ∷ rest) rank
-    (omega arith, sorted.1, sorted.2, sorted.3) member in
+    (sorted-raise n low next.first next rest (omega arith) sorted) member in
     omega arith

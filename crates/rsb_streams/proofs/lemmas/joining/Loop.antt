@@ -173,9 +173,9 @@ module _ {S T N : Type 0} (integer : Elements T N) (source : Stream S T N) where
         let facts = next-sorted n (may entry) (may s) (may t) (run start end)
         (interval_of rank range)
         so.gathers (held_laws.sorted t goes.keeps).some (held_laws.answers s t (Some range) call) in
-        let low = range-start rank range facts.1 in
-        let high = range-end rank range facts.1 in
-        (omega (arith, facts.1, facts.2, low), omega (arith, facts.2, high))
+        let low = range-start rank range facts.in_order in
+        let high = range-end rank range facts.in_order in
+        (omega (arith, facts.in_order, facts.in_type, low), omega (arith, facts.in_type, high))
 
     -- One more range, which overlaps or touches, is gathered.
     pub more : (entry s t : PutBack T S) (start end last : T) (range : RangeInclusive T)
@@ -191,8 +191,8 @@ module _ {S T N : Type 0} (integer : Elements T N) (source : Stream S T N) where
         let answers = held_laws.answers s t (Some range) call in
         let facts = next-sorted n (may entry) (may s) (may t) (run start end) next so.gathers some
         answers in
-        let low = range-start rank range facts.1 in
-        let high = range-end rank range facts.1 in
+        let low = range-start rank range facts.in_order in
+        let high = range-end rank range facts.in_order in
         let gathers = gathers-more n (may entry) (may s) (may t) (run start end) next so.gathers
         some answers
         (omega (arith, low, touching)) in
@@ -203,7 +203,7 @@ module _ {S T N : Type 0} (integer : Elements T N) (source : Stream S T N) where
           gathers = subst (Gathers n (may entry) (may t))
               (λ i. record { first = rank start; last = end_is i }) gathers;
           took = took-more entry s t range (run start end) (run start last) so.room so.took
-              (omega arith) (omega (arith, end_is)) (omega (arith, facts.0))
+              (omega arith) (omega (arith, end_is)) (omega (arith, facts.starts))
               (omega (arith, end_is)) call;
           nearer = omega (arith, on.2, so.nearer);
         }
@@ -285,13 +285,13 @@ module _ {S T N : Type 0} (integer : Elements T N) (source : Stream S T N) where
           → may s late × ((place : ℕ) → members late place ≡ true → rank end + 2 ≤ place)
       past late at =
           let first = put_back-may integer source range u t.iter late call.room put at in
-          let before = held_laws.answers s u (Some range) call first.0 first.1 in
-          let sorted = so.gathers.sorted (interval_of rank range ∷ first.0) before in
-          let low = range-start rank range sorted.1 in (
-            subst (may s) (sym first.2) before,
-            λ place member. next-past n (interval_of rank range) first.0 (rank start)
+          let before = held_laws.answers s u (Some range) call first.rest first.given in
+          let sorted = so.gathers.sorted (interval_of rank range ∷ first.rest) before in
+          let low = range-start rank range sorted.in_order in (
+            subst (may s) (sym first.is) before,
+            λ place member. next-past n (interval_of rank range) first.rest (rank start)
                 (rank end) place sorted (omega (arith, low, apart))
-                (subst (λ each. members each place ≡ true) first.2 member),
+                (subst (λ each. members each place ≡ true) first.is member),
           )
 
       -- The draw returns the gathered range, which comes before what may still come.
@@ -302,7 +302,7 @@ module _ {S T N : Type 0} (integer : Elements T N) (source : Stream S T N) where
           let facts = next-sorted n (may entry) (may s) (may u) (run start end)
           (interval_of rank range)
           so.gathers (held_laws.sorted u goes.keeps).some (held_laws.answers s u (Some range) call) in
-          let low = range-start rank range facts.1 in
+          let low = range-start rank range facts.in_order in
           let drew = call-by integer source s.held (Some range) (fused_of s) (fused_of u) so.room
           call.call in
           answer-from entry t start end answer fresh from to

@@ -8,7 +8,7 @@ use Rattle.rsb_integer.specs.Rank.{interval_of, intervals_of}
 use Rattle.rsb_integer.specs.Runs.{Interval}
 use Rattle.rsb_integer.specs.declared.integer.Integer.{Ghosts as Elements}
 use Rattle.rsb_streams.specs.Fused.{fused_stream, Fused}
-use Rattle.rsb_streams.specs.FusedLaws.{fused-answered}
+use Rattle.rsb_streams.specs.laws.Fused.{fused-answered}
 use Rattle.rsb_streams.specs.Lookahead.{with_held_ranges, undrawn_input, AreWithin, Ends, HasEnded, Input, IsOneFrom, IsUndrawn, Uses}
 use Rattle.rsb_streams.specs.PutBack.{fused_of, held_list, input_of, put_back, IsFresh, IsPutBack}
 use Rattle.rsb_streams.specs.Rows.{IsAnswered}

@@ -10,14 +10,14 @@ use Rattle.rsb_integer.specs.Rank.{interval_of}
 use Rattle.rsb_integer.specs.Runs.{Interval}
 use Rattle.rsb_streams.specs.Lookahead.{Ends, GivesFrom, Left, Right, Side, Spares, TakesOne}
 use Rattle.rsb_streams.specs.Merge.{merge, merge_inputs}
-use Rattle.rsb_streams.specs.MergeLaws.{both-finite, merge-starts}
+use Rattle.rsb_streams.specs.laws.Merge.{both-finite, merge-starts, merged-from, sorted-raise}
 use Rattle.rsb_streams.specs.PutBack.{input_of, put_back, IsPutBack}
 use Rattle.rsb_streams.specs.Stream.{Outcomes, ◌⊆◌, just, merges, HasSortedStarts, HasSortedStartsFrom, IsMergeOf}
 use Rattle.rsb_streams.specs.declared.merge.Merge.{Merge}
 use Rattle.rsb_streams.specs.declared.put_back.PutBack.{PutBack}
 use Rattle.rsb_streams.proofs.lemmas.lookahead.EachCall.{back-uses, draw-ends, draw-uses, from-none, from-some, no-list, uses-ended}
 use Rattle.rsb_streams.proofs.lemmas.sources.Known.{IsLawful, put_back-lawful, put_back-may, put_back-ready, put_back-rests, put_back-size, range-start}
-use Rattle.rsb_streams.proofs.lemmas.joining.Gathered.{head-sorted}
+use Rattle.rsb_streams.proofs.lemmas.joining.Gathered.{head-sorted, LiesFrom}
 
 -- ---- outcomes, in a type of n values
 
@@ -30,9 +30,9 @@ module _ (n : ℕ) (P Q After Later : Outcomes) (run : Interval) where
       → (rest : List Interval) → merges n After Later rest → merges n P Q (run ∷ rest)
   head-left sorted answers within past rest may = λ nothing. may (λ left right at also all.
       let first = sorted (run ∷ left) (answers left at) in
-      let runs = merge-starts n run.first left right rest first.3 (past right also) all.0 all.1 in
+      let runs = merge-starts n run.first left right rest first.rest (past right also) all.0 all.1 in
       nothing (run ∷ left) right (answers left at) (within right also)
-      ((first.0, first.1, first.2, runs), inl (left, refl, all.1)))
+      (merged-from n 0 run rest left first runs, inl (left, refl, all.1)))
 
   -- If a range of the right list starts no later than the left list, it may come first in the
   -- merge.
@@ -42,9 +42,9 @@ module _ (n : ℕ) (P Q After Later : Outcomes) (run : Interval) where
       → (rest : List Interval) → merges n After Later rest → merges n P Q (run ∷ rest)
   head-right sorted answers within past rest may = λ nothing. may (λ left right at also all.
       let first = sorted (run ∷ right) (answers right also) in
-      let runs = merge-starts n run.first left right rest (past left at) first.3 all.0 all.1 in
+      let runs = merge-starts n run.first left right rest (past left at) first.rest all.0 all.1 in
       nothing left (run ∷ right) (within left at) (answers right also)
-      ((first.0, first.1, first.2, runs), inr (right, refl, all.1)))
+      (merged-from n 0 run rest right first runs, inr (right, refl, all.1)))
 
 -- A merge of two empty lists is empty.
 no-merge : (runs : List Interval) → IsMergeOf [] [] runs → runs ≡ []
@@ -223,18 +223,14 @@ module _ {L R T N : Type 0} (integer : Elements T N) (left : Stream L T N)
       (left_goes : MakesProgress lefts.can_draw lefts.draws_left s.left (Some first) u)
       (right_goes : MakesProgress rights.can_draw rights.draws_left s.right (Some second) v) where
     -- The left range is non-empty and within the type.
-    left_first : (0 ≤ (interval_of rank first).first)
-        × ((interval_of rank first).first ≤ (interval_of rank first).last)
-        × ((interval_of rank first).last < n)
+    left_first : LiesFrom n 0 (interval_of rank first)
     left_first = head-sorted n 0 (interval_of rank first) (lefts.may_give u)
         (left_held.sorted u left_goes.keeps).some
         (λ rest at. ready.left.sorted (interval_of rank first ∷ rest)
         (left_held.answers s.left u (Some first) left_call rest at))
 
     -- The right range is non-empty and within the type.
-    right_first : (0 ≤ (interval_of rank second).first)
-        × ((interval_of rank second).first ≤ (interval_of rank second).last)
-        × ((interval_of rank second).last < n)
+    right_first : LiesFrom n 0 (interval_of rank second)
     right_first = head-sorted n 0 (interval_of rank second) (rights.may_give v)
         (right_held.sorted v right_goes.keeps).some
         (λ rest at. ready.right.sorted (interval_of rank second ∷ rest)
@@ -246,9 +242,9 @@ module _ {L R T N : Type 0} (integer : Elements T N) (left : Stream L T N)
     start-values =
         let one = left_first in
         let two = right_first in
-        let low = range-start rank first one.1 in
-        let high = range-start rank second two.1 in
-        (omega (arith, one.1, one.2, low), omega (arith, two.1, two.2, high))
+        let low = range-start rank first one.in_order in
+        let high = range-start rank second two.in_order in
+        (omega (arith, one.in_order, one.in_type, low), omega (arith, two.in_order, two.in_type, high))
 
     -- The right range starts first, and the left one is put back.
     module _ (w : PutBack T L) (put : IsPutBack first u w)
@@ -259,22 +255,23 @@ module _ {L R T N : Type 0} (integer : Elements T N) (left : Stream L T N)
           → lefts.may_give s.left runs × HasSortedStartsFrom n (interval_of rank second).first runs
       held-left runs at =
           let found = put_back-may integer left first u w runs left_call.room put at in
-          let before = left_held.answers s.left u (Some first) left_call found.0 found.1 in
-          let sorted = ready.left.sorted (interval_of rank first ∷ found.0) before in
-          let low = range-start rank first left_first.1 in
-          let high = range-start rank second right_first.1 in
+          let before = left_held.answers s.left u (Some first) left_call found.rest found.given in
+          let sorted = ready.left.sorted (interval_of rank first ∷ found.rest) before in
+          let low = range-start rank first left_first.in_order in
+          let high = range-start rank second right_first.in_order in
           let all : HasSortedStartsFrom n (interval_of rank second).first
-          (interval_of rank first ∷ found.0) =
-          (omega (arith, low, high, less), sorted.1, sorted.2, sorted.3) in (
-            subst (lefts.may_give s.left) (sym found.2) before,
-            subst (HasSortedStartsFrom n (interval_of rank second).first) (sym found.2) all,
+          (interval_of rank first ∷ found.rest) =
+          sorted-raise n 0 (interval_of rank second).first (interval_of rank first) found.rest
+          (omega (arith, low, high, less)) sorted in (
+            subst (lefts.may_give s.left) (sym found.is) before,
+            subst (HasSortedStartsFrom n (interval_of rank second).first) (sym found.is) all,
           )
 
       -- The right range comes before what may still come.
       pub right-answers : Answered s (Some second) (record { left = w; right = v })
       right-answers =
-          let low = range-start rank first left_first.1 in
-          let high = range-start rank second right_first.1 in
+          let low = range-start rank first left_first.in_order in
+          let high = range-start rank second right_first.in_order in
           record {
             answers = head-right n (lefts.may_give s.left) (rights.may_give s.right) (lefts.may_give w)
                 (rights.may_give v)
@@ -324,22 +321,23 @@ module _ {L R T N : Type 0} (integer : Elements T N) (left : Stream L T N)
           → rights.may_give s.right runs × HasSortedStartsFrom n (interval_of rank first).first runs
       held-right runs at =
           let found = put_back-may integer right second v w runs right_call.room put at in
-          let before = right_held.answers s.right v (Some second) right_call found.0 found.1 in
-          let sorted = ready.right.sorted (interval_of rank second ∷ found.0) before in
-          let low = range-start rank first left_first.1 in
-          let high = range-start rank second right_first.1 in
+          let before = right_held.answers s.right v (Some second) right_call found.rest found.given in
+          let sorted = ready.right.sorted (interval_of rank second ∷ found.rest) before in
+          let low = range-start rank first left_first.in_order in
+          let high = range-start rank second right_first.in_order in
           let all : HasSortedStartsFrom n (interval_of rank first).first
-          (interval_of rank second ∷ found.0) =
-          (omega (arith, low, high, most), sorted.1, sorted.2, sorted.3) in (
-            subst (rights.may_give s.right) (sym found.2) before,
-            subst (HasSortedStartsFrom n (interval_of rank first).first) (sym found.2) all,
+          (interval_of rank second ∷ found.rest) =
+          sorted-raise n 0 (interval_of rank first).first (interval_of rank second) found.rest
+          (omega (arith, low, high, most)) sorted in (
+            subst (rights.may_give s.right) (sym found.is) before,
+            subst (HasSortedStartsFrom n (interval_of rank first).first) (sym found.is) all,
           )
 
       -- The left range comes before what may still come.
       pub left-answers : Answered s (Some first) (record { left = u; right = w })
       left-answers =
-          let low = range-start rank first left_first.1 in
-          let high = range-start rank second right_first.1 in
+          let low = range-start rank first left_first.in_order in
+          let high = range-start rank second right_first.in_order in
           record {
             answers = head-left n (lefts.may_give s.left) (rights.may_give s.right) (lefts.may_give u)
                 (rights.may_give w)

@@ -8,7 +8,7 @@ use Rattle.rsb_integer.specs.declared.integer.Integer.{Ghosts as Elements}
 use Rattle.rsb_integer.specs.Rank.{interval_of}
 use Rattle.rsb_streams.specs.PutBack.{put_back}
 use Rattle.rsb_streams.specs.Rows.{IsSorted}
-use Rattle.rsb_streams.specs.StreamLaws.{sorted-lower}
+use Rattle.rsb_streams.specs.laws.Stream.{sorted-lower}
 use Rattle.rsb_streams.specs.declared.draw.Draw.{Ghosts as Stream}
 use Rattle.rsb_streams.specs.declared.put_back.PutBack.{PutBack}
 
@@ -71,8 +71,10 @@ module _ {T N I : Type 0} (integer : Elements T N) (source : Stream I T N)
   held-ready i done range ready = record {
     callable = ready.callable;
     sorted = λ runs may.
-        let all = ready.sorted (interval_of integer.rank range ∷ runs) (runs, may, refl) in
-        sorted-lower integer.value_count (interval_of integer.rank range).first 0 runs (omega arith) all.3;
+        let all = ready.sorted (interval_of integer.rank range ∷ runs)
+        (record { rest = runs; given = may; is = refl }) in
+        sorted-lower integer.value_count (interval_of integer.rank range).first 0 runs (omega arith)
+        all.rest;
   }
 
   -- A draw that returns the held range makes progress.

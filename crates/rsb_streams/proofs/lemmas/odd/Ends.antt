@@ -117,7 +117,7 @@ module _ {I T N : Type 0} (integer : Elements T N) (source : Stream I T N) where
                 nothing [] nothing_more
                 (subst (λ first. ArePieces n (oddly_covered (from_to (rank was.start) (rank end) ∷ []))
                 (first ∷ rest)) (sym gap)
-                (pieces-first n (from_to (rank was.start) (rank end)) [] rest sorted.1 sorted.2 tt
+                (pieces-first n (from_to (rank was.start) (rank end)) [] rest sorted.in_order sorted.in_type tt
                 (subst (ArePieces n (oddly_covered [])) (sym at) (no-pieces n)))));
             rests = tt;
             asks = takes-last integer source entry was drew (final left) refl none

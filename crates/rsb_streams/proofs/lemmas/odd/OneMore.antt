@@ -20,10 +20,11 @@ use Rattle.rsb_streams.proofs.lemmas.checking.Comparisons.{IsRanked, less-rank, 
 use Rattle.rsb_streams.proofs.lemmas.gaps.Loop.{answered}
 use Rattle.rsb_streams.proofs.lemmas.odd.Ranks.{past-twofold, pieces-before, pieces-first, pieces-past, twofold-tail}
 use Rattle.rsb_streams.proofs.lemmas.sources.Known.{IsLawful, range-start, range-end}
-use Rattle.rsb_streams.proofs.lemmas.joining.Gathered.{head-sorted}
+use Rattle.rsb_streams.proofs.lemmas.joining.Gathered.{head-sorted, LiesFrom}
 use Rattle.rsb_streams.proofs.lemmas.odd.Drawn.{begun-past, begun-some, drawn-more, members-if, one-if, past-odd, takes-more, DrawnSince}
 use Rattle.rsb_streams.proofs.lemmas.odd.Ends.{so-by}
 use Rattle.rsb_streams.proofs.lemmas.odd.States.{OddSoFar, state, one-held, HasPassed}
+use Rattle.rsb_streams.specs.laws.Merge.{sorted-raise}
 
 -- No rank from `next` on is before `next`.
 none-from : (first next at : ℕ) → next ≤ at → false ≡ cond (nat_le first at) (nat_lt at next) false
@@ -76,9 +77,7 @@ module _ {I T N : Type 0} (integer : Elements T N) (source : Stream I T N) where
         before given at = laws.answers was.iter j (Some range) call given at
 
         -- The range is non-empty and within the type.
-        facts : (0 ≤ (interval_of rank range).first)
-            × ((interval_of rank range).first ≤ (interval_of rank range).last)
-            × ((interval_of rank range).last < n)
+        facts : LiesFrom n 0 (interval_of rank range)
         facts = head-sorted n 0 (interval_of rank range) (source.may_give j) some
             (λ given at. (laws.sorted was.iter so_now.going.callable).all
             (interval_of rank range ∷ given) (before given at))
@@ -86,8 +85,8 @@ module _ {I T N : Type 0} (integer : Elements T N) (source : Stream I T N) where
         -- The interval of the range is from the rank of its start to the rank of its end.
         is_run : interval_of rank range ≡ from_to (rank next) (rank next_end)
         is_run = same_interval (interval_of rank range) (from_to (rank next) (rank next_end))
-            (range-start rank range facts.1 ∙ sym (ap rank from))
-            (range-end rank range facts.1 ∙ sym (ap rank to))
+            (range-start rank range facts.in_order ∙ sym (ap rank from))
+            (range-end rank range facts.in_order ∙ sym (ap rank to))
 
         -- So this interval, followed by what may come after it, might come before the draw.
         comes : (given : List Interval) → source.may_give j given
@@ -104,7 +103,7 @@ module _ {I T N : Type 0} (integer : Elements T N) (source : Stream I T N) where
         -- The new range is non-empty.
         in_order : rank next ≤ rank next_end
         in_order =
-            let ordered = facts.1 in
+            let ordered = facts.in_order in
             let low = ap (λ run. run.first) is_run in
             let high = ap (λ run. run.last) is_run in
             omega (arith, ordered, low, high)
@@ -115,7 +114,7 @@ module _ {I T N : Type 0} (integer : Elements T N) (source : Stream I T N) where
             let all = facts in
             let low = ap (λ run. run.first) is_run in
             let high = ap (λ run. run.last) is_run in
-            (omega (arith, all.1, all.2, low, high), omega (arith, all.2, high))
+            (omega (arith, all.in_order, all.in_type, low, high), omega (arith, all.in_type, high))
 
         -- If the range and those to come satisfy `IsTwofold`, the state in which only this range is
         -- pending satisfies `IsGoing`.
@@ -180,7 +179,7 @@ module _ {I T N : Type 0} (integer : Elements T N) (source : Stream I T N) where
           twofold given at = so.going.twofold (from_to (rank next) (rank next_end) ∷ given) (comes given at)
 
           -- The pending range is non-empty and within the type.
-          pending-facts : (0 ≤ rank was.start) × (rank was.start ≤ rank end) × (rank end < n)
+          pending-facts : LiesFrom n 0 (from_to (rank was.start) (rank end))
           pending-facts = head-sorted n 0 (from_to (rank was.start) (rank end))
               (λ given. (rest : List Interval) × source.may_give j rest
               × (given ≡ from_to (rank next) (rank next_end) ∷ rest))
@@ -192,8 +191,8 @@ module _ {I T N : Type 0} (integer : Elements T N) (source : Stream I T N) where
           pub both-values : (rank was.start < n) × (rank end < n) × (rank next < n) × (rank next_end < n)
           both-values =
               let all = pending-facts in
-              let low = all.1 in
-              let high = all.2 in
+              let low = all.in_order in
+              let high = all.in_type in
               (omega (arith, low, high), high, next-values.0, next-values.1)
 
           -- If the pending range starts before the new one, the new one does not start at rank 0.
@@ -222,8 +221,9 @@ module _ {I T N : Type 0} (integer : Elements T N) (source : Stream I T N) where
                     nothing (run ∷ given) (comes given might)
                     (subst (λ each. ArePieces n (oddly_covered (first ∷ run ∷ given)) (each ∷ rest))
                     (sym gap)
-                    (pieces-first n first (run ∷ given) rest both.1 both.2
-                    (omega arith, both.3.1, both.3.2, both.3.3) all))));
+                    (pieces-first n first (run ∷ given) rest both.in_order both.in_type
+                    (sorted-raise n first.first (first.last + 1) run given (omega arith) both.rest)
+                    all))));
                 rests = tt;
                 asks =
                     let last = ap (λ run. run.last) gap in
@@ -259,7 +259,7 @@ module _ {I T N : Type 0} (integer : Elements T N) (source : Stream I T N) where
             -- The new range starts no earlier than the pending one.
             later : rank was.start ≤ rank next
             later = (head-sorted n (rank was.start) (from_to (rank next) (rank next_end))
-                (source.may_give j) some (λ given at. (twofold given at).sorted.3)).0
+                (source.may_give j) some (λ given at. (twofold given at).sorted.rest)).starts
 
             -- The call left the source as it is in the next state.
             call-now : source.draw_gives was.iter (Some range) now.iter

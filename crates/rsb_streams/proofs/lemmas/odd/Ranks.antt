@@ -7,7 +7,7 @@ use Rattle.rsb_integer.specs.Selection.{Selection, Agree, exclusive_or}
 use Rattle.rsb_integer.proofs.lemmas.List.{true_or_false, not_both}
 use Rattle.rsb_integer.proofs.lemmas.Members.{covers-cases, covers-inside, covers-outside, members-head, members-tail}
 use Rattle.rsb_streams.specs.OddPieces.{oddly_covered, ArePieces, IsTwoDeep, IsTwofold}
-use Rattle.rsb_streams.specs.StreamLaws.{sorted-lower}
+use Rattle.rsb_streams.specs.laws.Stream.{sorted-lower}
 use Rattle.rsb_streams.specs.Stream.{HasSortedStarts, HasSortedStartsFrom, run_if_any}
 
 -- ---- an odd number of intervals
@@ -17,11 +17,11 @@ pub odd-below : (n low : ℕ) (runs : List Interval) (rank : ℕ) → HasSortedS
     → rank < low → oddly_covered runs rank ≡ false
 odd-below n low [] rank sorted below = refl
 odd-below n low (run ∷ runs) rank sorted below =
-    let starts = sorted.0 in
+    let starts = sorted.starts in
     let under : rank < run.first = omega arith in
     ap (λ test. exclusive_or test (oddly_covered runs rank))
     (covers-outside run rank (inl under))
-    ∙ odd-below n run.first runs rank sorted.3 under
+    ∙ odd-below n run.first runs rank sorted.rest under
 
 -- An interval put before a list changes `oddly_covered` exactly at its own ranks.
 pub odd-front : (run : Interval) (runs : List Interval) (rank : ℕ)
@@ -58,7 +58,7 @@ deep-tail run runs deep rank = let all = deep rank in omega arith
 pub twofold-tail : (n : ℕ) (run : Interval) (runs : List Interval) → IsTwofold n (run ∷ runs)
     → IsTwofold n runs
 twofold-tail n run runs all = record {
-  sorted = sorted-lower n run.first 0 runs (omega arith) all.sorted.3;
+  sorted = sorted-lower n run.first 0 runs (omega arith) all.sorted.rest;
   deep = deep-tail run runs all.deep;
 }
 
@@ -70,13 +70,15 @@ sorted-from : (n low : ℕ) (runs : List Interval) → HasSortedStarts n runs
     → HasSortedStartsFrom n low runs
 sorted-from n low [] sorted from = tt
 sorted-from n low (run ∷ runs) sorted from =
-    let ordered = sorted.1 in
-    let below = sorted.2 in (
-      from run.first (omega arith) (members-head run runs run.first (omega arith) ordered),
-      ordered,
-      below,
-      sorted.3,
-    )
+    let ordered = sorted.in_order in
+    let below = sorted.in_type in
+    record {
+      starts = from run.first (omega arith)
+          (members-head run runs run.first (omega arith) ordered);
+      in_order = ordered;
+      in_type = below;
+      rest = sorted.rest;
+    }
 
 -- The empty list is a list of pieces of no intervals.
 pub no-pieces : (n : ℕ) → ArePieces n (oddly_covered []) []
@@ -87,8 +89,8 @@ pub only-none : (n : ℕ) (pieces : List Interval) → ArePieces n (oddly_covere
     → pieces ≡ []
 only-none n [] all = refl
 only-none n (piece ∷ pieces) all =
-    let ordered = all.sorted.1 in
-    let below = all.sorted.2 in
+    let ordered = all.sorted.in_order in
+    let below = all.sorted.in_type in
     absurd (not_both (members (piece ∷ pieces) piece.first)
     (members-head piece pieces piece.first (omega arith) ordered)
     (all.same piece.first (omega arith)))
@@ -107,16 +109,17 @@ pub pieces-first : (n : ℕ) (run : Interval) (runs pieces : List Interval) → 
     → ArePieces n (oddly_covered runs) pieces
     → ArePieces n (oddly_covered (run ∷ runs)) (run ∷ pieces)
 pieces-first n run runs pieces ordered below past all = record {
-  sorted = (
-    omega arith,
-    ordered,
-    below,
-    sorted-from n run.first pieces all.sorted (λ rank within here. elim (cases_lt rank run.first) [
-      | inl under ↦ absurd (not_both (members pieces rank) here
-          (all.same rank within ∙ odd-below n (run.last + 1) runs rank past (omega arith)))
-      | inr from ↦ from
-    ]),
-  );
+  sorted = record {
+    starts = omega arith;
+    in_order = ordered;
+    in_type = below;
+    rest = sorted-from n run.first pieces all.sorted (λ rank within here.
+        elim (cases_lt rank run.first) [
+          | inl under ↦ absurd (not_both (members pieces rank) here
+              (all.same rank within ∙ odd-below n (run.last + 1) runs rank past (omega arith)))
+          | inr from ↦ from
+        ]);
+  };
   same = λ rank within. elim (covers-cases run rank) [
     | inl inside ↦
         members-head run pieces rank inside.0 inside.1
@@ -154,10 +157,11 @@ past-both : (n : ℕ) (run next : Interval) (given : List Interval) → next.fir
     → HasSortedStartsFrom n (min run.last next.last + 1) given
 past-both n run next [] meets all = tt
 past-both n run next (other ∷ given) meets all =
-    let order = all.sorted.3.0 in
-    let starts = all.sorted.3.3.0 in
-    let ordered = all.sorted.3.3.1 in (
-      elim (cases_lt (min run.last next.last) other.first) [
+    let order = all.sorted.rest.starts in
+    let starts = all.sorted.rest.rest.starts in
+    let ordered = all.sorted.rest.rest.in_order in
+    record {
+      starts = elim (cases_lt (min run.last next.last) other.first) [
         | inl past ↦ omega (arith, past)
         | inr within ↦
             let first = covers-inside run other.first (omega arith) (omega arith) in
@@ -169,11 +173,11 @@ past-both n run next (other ∷ given) meets all =
             let three : ◌≡◌ {A = ℕ} (cond (covers other other.first) 1 0) 1 = ap (λ test. cond test 1 0) third
             in
             absurd (omega (arith, most, one, two, three))
-      ],
-      ordered,
-      all.sorted.3.3.2,
-      all.sorted.3.3.3,
-    )
+      ];
+      in_order = ordered;
+      in_type = all.sorted.rest.rest.in_type;
+      rest = all.sorted.rest.rest.rest;
+    }
 
 module _ (n : ℕ) (run next past : Interval) (given : List Interval)
     (all : IsTwofold n (run ∷ next ∷ given)) (meets : next.first ≤ run.last)
@@ -187,17 +191,18 @@ module _ (n : ℕ) (run next past : Interval) (given : List Interval)
       front : (test : Bool) → nat_le past.first past.last ≡ test
           → HasSortedStartsFrom n next.first (cond test (past ∷ []) [] ++ given)
       front true some =
-          let ordered = all.sorted.3.1 in
-          let first = all.sorted.2 in
-          let second = all.sorted.3.2 in (
-            omega (arith, ordered, meets, from),
-            grind (arith, nat_tests),
-            omega (arith, to, first, second),
-            subst (λ low. HasSortedStartsFrom n low given) (sym from)
-                (past-both n run next given meets all),
-          )
+          let ordered = all.sorted.rest.in_order in
+          let first = all.sorted.in_type in
+          let second = all.sorted.rest.in_type in
+          record {
+            starts = omega (arith, ordered, meets, from);
+            in_order = grind (arith, nat_tests);
+            in_type = omega (arith, to, first, second);
+            rest = subst (λ low. HasSortedStartsFrom n low given) (sym from)
+                (past-both n run next given meets all);
+          }
       front false none =
-          let ordered = all.sorted.3.1 in
+          let ordered = all.sorted.rest.in_order in
           sorted-lower n (min run.last next.last + 1) next.first given
           (omega (arith, ordered, meets)) (past-both n run next given meets all)
 
@@ -207,7 +212,7 @@ module _ (n : ℕ) (run next past : Interval) (given : List Interval)
     sorted = sorted-lower n next.first 0 (run_if_any past ++ given) (omega arith) past-starts;
     deep = λ rank.
         let front = cover-front past given rank in
-        let less = cover-split run next past all.sorted.3.0 meets all.sorted.3.1 from to rank in
+        let less = cover-split run next past all.sorted.rest.starts meets all.sorted.rest.in_order from to rank in
         let most = all.deep rank in
         omega (arith, front, less, most);
   }
@@ -219,7 +224,7 @@ module _ (n : ℕ) (run next past : Interval) (given : List Interval)
   pieces-past pieces same = pieces-along n (oddly_covered (run_if_any past ++ given))
       (oddly_covered (run ∷ next ∷ given)) pieces (λ rank within.
       odd-front past given rank
-      ∙ sym (odd-split run next past all.sorted.3.0 meets all.sorted.3.1 from to rank false
+      ∙ sym (odd-split run next past all.sorted.rest.starts meets all.sorted.rest.in_order from to rank false
       (oddly_covered given rank) (grind (arith, nat_tests))))
 
   -- Otherwise, what is before the second is the first piece.
@@ -228,12 +233,12 @@ module _ (n : ℕ) (run next past : Interval) (given : List Interval)
       → ArePieces n (oddly_covered (run_if_any past ++ given)) pieces
       → ArePieces n (oddly_covered (run ∷ next ∷ given)) (piece ∷ pieces)
   pieces-before piece pieces less start end found =
-      let below = all.sorted.3.2 in
-      let ordered = all.sorted.3.1 in
+      let below = all.sorted.rest.in_type in
+      let ordered = all.sorted.rest.in_order in
       pieces-along n (oddly_covered (piece ∷ (run_if_any past ++ given)))
       (oddly_covered (run ∷ next ∷ given)) (piece ∷ pieces) (λ rank within.
       ap (λ test. exclusive_or (covers piece rank) test) (odd-front past given rank)
-      ∙ sym (odd-split run next past all.sorted.3.0 meets all.sorted.3.1 from to rank
+      ∙ sym (odd-split run next past all.sorted.rest.starts meets all.sorted.rest.in_order from to rank
       (covers piece rank) (oddly_covered given rank) (grind (arith, nat_tests))))
       (pieces-first n piece (run_if_any past ++ given) pieces (omega arith) (omega arith)
       (subst (λ low. HasSortedStartsFrom n low (run_if_any past ++ given)) (sym end) past-starts)

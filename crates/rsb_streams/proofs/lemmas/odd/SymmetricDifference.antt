@@ -5,7 +5,7 @@ use Rattle.rsb_integer.specs.Selection.{exclusive_or, symmetric_difference}
 use Rattle.rsb_integer.proofs.lemmas.Members.{covers-cases, covers-outside, members-below, members-head, members-tail}
 use Rattle.rsb_integer.proofs.lemmas.Runs.{runs-along}
 use Rattle.rsb_streams.specs.OddPieces.{oddly_covered, ArePieces, IsTwofold, IsTwoDeep}
-use Rattle.rsb_streams.specs.StreamLaws.{settled_le}
+use Rattle.rsb_streams.specs.laws.Stream.{settled_le}
 use Rattle.rsb_streams.specs.Stream.{Outcomes, ◌⊆◌, HasSortedStarts, IsMergeOf, SomeOutcomes, joined_runs, merges, runs_by_two}
 
 -- ---- a canonical list
@@ -15,11 +15,11 @@ cover-below : (low : ℕ) (runs : List Interval) (rank : ℕ) → IsCanonicalFro
     → cover runs rank ≡ 0
 cover-below low [] rank canonical below = refl
 cover-below low (run ∷ runs) rank canonical below =
-    let starts = canonical.0 in
-    let ordered = canonical.1 in
+    let starts = canonical.starts in
+    let ordered = canonical.in_order in
     let first : ◌≡◌ {A = ℕ} (cond (covers run rank) 1 0) 0 =
     ap (λ test. cond test 1 0) (covers-outside run rank (inl (omega arith))) in
-    let rest = cover-below (run.last + 2) runs rank canonical.2 (omega arith) in
+    let rest = cover-below (run.last + 2) runs rank canonical.rest (omega arith) in
     omega (arith, first, rest)
 
 -- No rank is in more than one interval of a canonical list.
@@ -31,12 +31,12 @@ canonical-cover low (run ∷ runs) rank canonical = elim (covers-cases run rank)
       let last = inside.1 in
       let first : ◌≡◌ {A = ℕ} (cond (covers run rank) 1 0) 1 =
       ap (λ test. cond test 1 0) inside.2 in
-      let rest = cover-below (run.last + 2) runs rank canonical.2 (omega arith) in
+      let rest = cover-below (run.last + 2) runs rank canonical.rest (omega arith) in
       omega (arith, first, rest)
   | inr outside ↦
       let first : ◌≡◌ {A = ℕ} (cond (covers run rank) 1 0) 0 =
       ap (λ test. cond test 1 0) outside.1 in
-      let rest = canonical-cover (run.last + 2) runs rank canonical.2 in
+      let rest = canonical-cover (run.last + 2) runs rank canonical.rest in
       omega (arith, first, rest)
 ]
 
@@ -48,12 +48,12 @@ canonical-odd low (run ∷ runs) rank canonical = elim (covers-cases run rank) [
   | inl inside ↦
       let last = inside.1 in
       ap (λ test. exclusive_or test (oddly_covered runs rank)) inside.2
-      ∙ ap not (canonical-odd (run.last + 2) runs rank canonical.2
-      ∙ members-below (run.last + 2) runs rank canonical.2 (omega arith))
+      ∙ ap not (canonical-odd (run.last + 2) runs rank canonical.rest
+      ∙ members-below (run.last + 2) runs rank canonical.rest (omega arith))
       ∙ sym (members-head run runs rank inside.0 inside.1)
   | inr outside ↦
       ap (λ test. exclusive_or test (oddly_covered runs rank)) outside.1
-      ∙ canonical-odd (run.last + 2) runs rank canonical.2
+      ∙ canonical-odd (run.last + 2) runs rank canonical.rest
       ∙ sym (members-tail run runs rank outside.0)
 ]
 

@@ -6,7 +6,7 @@ use Rattle.rsb_integer.specs.Runs.{Interval, length_of, members, IsCanonicalIn}
 use Rattle.rsb_integer.specs.Selection.{count}
 use Rattle.rsb_integer.proofs.lemmas.Canonical.{canonical-front, canonical-parts}
 use Rattle.rsb_integer.proofs.lemmas.Count.{count-members, count-within}
-use Rattle.rsb_streams.specs.StreamLaws.{settled_canonical_in}
+use Rattle.rsb_streams.specs.laws.Stream.{settled_canonical_in}
 use Rattle.rsb_streams.specs.Stream.{Outcomes, ◌⊆◌, HasOutcome}
 
 -- What holds before each iteration: the ranges drawn so far, followed by what may come now, might
@@ -31,13 +31,13 @@ module _ (n : ℕ) (first before after : Outcomes) (canonical : first ⊆ IsCano
 
   -- So the run is in order.
   pub counted-ordered : run.first ≤ run.last
-  counted-ordered = (canonical-parts 0 so_far.drawn (run ∷ []) drawn-canonical.0).1.1
+  counted-ordered = (canonical-parts 0 so_far.drawn (run ∷ []) drawn-canonical.apart).1.in_order
 
   -- The members counted so far and those of the run are at most n.
   pub counted-within : counted + length_of run ≤ n
   counted-within =
       let list = so_far.drawn ++ run ∷ [] in
-      let total = count-members n 0 list drawn-canonical.0 drawn-canonical.1 in
+      let total = count-members n 0 list drawn-canonical.apart drawn-canonical.within in
       let most = count-within n (members list) in
       let sum = sum_by-append length_of so_far.drawn (run ∷ []) in
       let number = so_far.number in
@@ -64,4 +64,4 @@ pub counted-all : (n : ℕ) (first now : Outcomes) → first ⊆ IsCanonicalIn n
 counted-all n first now canonical counted so_far last =
     let may = subst first (append-nil so_far.drawn) (so_far.given [] last) in
     let lawful = canonical so_far.drawn may in
-    (so_far.drawn, may, so_far.number ∙ sym (count-members n 0 so_far.drawn lawful.0 lawful.1))
+    (so_far.drawn, may, so_far.number ∙ sym (count-members n 0 so_far.drawn lawful.apart lawful.within))

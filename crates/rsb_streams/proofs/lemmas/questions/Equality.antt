@@ -26,7 +26,7 @@ unequal-tells : (n : ℕ) (left right : List Interval) → IsCanonicalIn n left
 unequal-tells n left right canonical also_canonical unequal = (
   (λ no. absurd (cc)),
   (λ same. absurd (unequal
-      (canonical-same n left right canonical.0 also_canonical.0 canonical.1 also_canonical.1
+      (canonical-same n left right canonical.apart also_canonical.apart canonical.within also_canonical.within
       same))),
 )
 

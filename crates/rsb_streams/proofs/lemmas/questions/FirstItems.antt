@@ -11,7 +11,7 @@ use Rattle.rsb_integer.specs.Runs.{Interval, members, IsCanonicalIn}
 use Rattle.rsb_integer.specs.Selection.{IsUniversal, IsEmpty}
 use Rattle.rsb_integer.proofs.lemmas.List.{not_both}
 use Rattle.rsb_integer.proofs.lemmas.Members.{members-below, members-head, members-tail}
-use Rattle.rsb_streams.specs.StreamLaws.{canonical-sorted}
+use Rattle.rsb_streams.specs.laws.Stream.{canonical-sorted}
 use Rattle.rsb_streams.specs.Stream.{◌⊆◌, SomeOutcome}
 use Rattle.rsb_streams.proofs.lemmas.sources.Known.{IsLawful}
 use Rattle.rsb_streams.proofs.lemmas.joining.Gathered.{head-sorted}
@@ -36,7 +36,7 @@ module _ {S T N : Type 0} (integer : Elements T N) (source : Stream S T N) (laws
       nothing (run ∷ rest) before (
         (λ no. absurd (cc)),
         (λ none. absurd (not_both (members (run ∷ rest) run.first)
-            (members-head run rest run.first (omega arith) sorted.1) (none run.first))),
+            (members-head run rest run.first (omega arith) sorted.in_order) (none run.first))),
       ))
 
   -- If the first draw returns `None`, the stream does not have every rank.
@@ -72,7 +72,7 @@ module _ {S T N : Type 0} (integer : Elements T N) (source : Stream S T N) (laws
       (laws.sorted t goes.keeps).some
       (λ rest at. (laws.sorted s ready).all (interval_of rank range ∷ rest)
       (laws.answers s t (Some range) call rest at)) in
-      (facts.1, facts.2)
+      (facts.in_order, facts.in_type)
 
 -- ---- a canonical list that has every rank
 
@@ -82,11 +82,11 @@ pub late-lacks : (n : ℕ) (run : Interval) (rest : List Interval) → IsCanonic
 late-lacks n run rest canonical late = (
   (λ no. absurd (cc)),
   (λ all.
-      let ordered = canonical.0.1 in
-      let below = (canonical-sorted n 0 (run ∷ rest) canonical.0 canonical.1).2 in
+      let ordered = canonical.apart.in_order in
+      let below = (canonical-sorted n 0 (run ∷ rest) canonical.apart canonical.within).in_type in
       absurd (not_both (members (run ∷ rest) 0) (all 0 (omega arith))
       (members-tail run rest 0 (inl late)
-      ∙ members-below (run.last + 2) rest 0 canonical.0.2 (omega arith)))),
+      ∙ members-below (run.last + 2) rest 0 canonical.apart.rest (omega arith)))),
 )
 
 -- If the first range starts at the least rank, the list has every rank exactly if it ends at the
@@ -106,7 +106,7 @@ first-whole n run rest false canonical least is = (
       let less : run.last + 1 < n = grind (arith, nat_tests) in
       absurd (not_both (members (run ∷ rest) (run.last + 1)) (all (run.last + 1) less)
       (members-tail run rest (run.last + 1) (inr (omega arith))
-      ∙ members-below (run.last + 2) rest (run.last + 1) canonical.0.2 (omega arith)))),
+      ∙ members-below (run.last + 2) rest (run.last + 1) canonical.apart.rest (omega arith)))),
 )
 
 -- Adding one to both numbers does not change whether the first is at most the second.

@@ -30,7 +30,7 @@ nothing-tells n operation Fact P Q Given test means given some = λ nothing. som
             ∙ (means (members left) (members right)).1 fact rank below
         | inr past ↦
             members-end n runs rank
-            (runs-canonical n (operation (members left) (members right)) runs all).1 past
+            (runs-canonical n (operation (members left) (members right)) runs all).within past
       ])),
     )))
 

@@ -12,7 +12,7 @@ use Rattle.std.specs.declared.ops.RangeInclusive.{RangeInclusive}
 use Rattle.rsb_integer.specs.Rank.{interval_of, intervals_of}
 use Rattle.rsb_integer.specs.Runs.{Interval, covers, cover, members, AreRuns}
 use Rattle.rsb_integer.proofs.lemmas.Runs.{runs-canonical, runs-from_canonical}
-use Rattle.rsb_streams.specs.StreamLaws.{settled_canonical_in}
+use Rattle.rsb_streams.specs.laws.Stream.{settled_canonical_in}
 use Rattle.rsb_streams.specs.Stream.{joined_runs, just, HasSortedStarts, HasSortedStartsFrom}
 use Rattle.rsb_streams.specs.UnsortedDisjoint.{IsProper}
 use Rattle.rsb_streams.proofs.lemmas.calling.Results.{members-runs_by}
@@ -26,7 +26,7 @@ pub runs-joined : (n : ℕ) (given runs : List Interval) → joined_runs n (just
 runs-joined n given runs may =
     let canonical = settled_canonical_in n runs (λ fails. may (λ other is all.
     fails (runs-canonical n (members other) runs all))) in
-    runs-from_canonical n (members given) runs canonical.0 canonical.1
+    runs-from_canonical n (members given) runs canonical.apart canonical.within
     (members-runs_by n (λ selected. selected) given runs may)
 
 -- ---- another order
@@ -97,17 +97,19 @@ module _ {T : Type 0} (rank : T → ℕ) (n : ℕ) where
     sorted-from low [] proper ascend from = tt
     sorted-from low (range ∷ ranges) proper ascend from =
         let here = All-head Proper range ranges proper in
-        let rest = All-tail Proper range ranges proper in (
-          from range ranges refl,
-          here.in_order,
-          here.in_type,
-          sorted-from (interval_of rank range).first ranges rest (ascend-tail range ranges ascend)
+        let rest = All-tail Proper range ranges proper in
+        record {
+          starts = from range ranges refl;
+          in_order = here.in_order;
+          in_type = here.in_type;
+          rest = sorted-from (interval_of rank range).first ranges rest
+              (ascend-tail range ranges ascend)
               (λ next others is.
               let follows = subst (All Proper) is rest in
               let later = subst (λ each. StartsAscend (range ∷ each)) is ascend in
               starts-after range next here (All-head Proper next others follows)
-              (later 0 range (omega arith) (omega arith))),
-        )
+              (later 0 range (omega arith) (omega arith)));
+        }
 
     -- Proper ranges sorted by start are a list sorted by start.
     pub sorted-starts : (ranges : List (RangeInclusive T)) → All Proper ranges

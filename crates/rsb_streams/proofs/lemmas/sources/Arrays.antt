@@ -12,10 +12,10 @@ use Rattle.rsb_integer.specs.Rank.{interval_of, intervals_of}
 use Rattle.rsb_integer.specs.Runs.{Interval, AllEndBelow, IsCanonicalIn}
 use Rattle.rsb_integer.proofs.lemmas.Canonical.{canonical-front}
 use Rattle.rsb_streams.specs.Calls.{IsSource}
-use Rattle.rsb_streams.specs.CallsLaws.{calls-steps}
+use Rattle.rsb_streams.specs.laws.Calls.{calls-steps}
 use Rattle.rsb_streams.specs.Stream.{HasSortedStarts, HasSortedStartsFrom}
-use Rattle.rsb_streams.specs.StreamLaws.{spaced-canonical}
-use Rattle.rsb_streams.specs.Touching.{IsSpacedFrom, IsTouchingIn}
+use Rattle.rsb_streams.specs.laws.Stream.{spaced-canonical}
+use Rattle.rsb_streams.specs.Touching.{IsSpacedFrom, IsSpacedIn, IsTouchingIn}
 use Rattle.rsb_streams.proofs.lemmas.checking.Spaced.{spaced-front}
 use Rattle.rsb_streams.proofs.lemmas.sources.Lawful.{sorted-front}
 use Rattle.rsb_streams.proofs.lemmas.sources.Listed.{listed-yields}
@@ -66,9 +66,15 @@ module _ {T : Type 0} (rank : T → ℕ) (n : ℕ) where
       let rest = spaced-list gap (rank (range_inclusive_end range) + gap) ranges spaced.2 in
       subst (λ (run : Interval). IsSpacedFrom gap low (run ∷ runs) × AllEndBelow n (run ∷ runs))
       (sym (whole-interval range spaced.1)) (
-        (spaced.0, spaced.1.in_order, rest.0),
+        record { starts = spaced.0; in_order = spaced.1.in_order; rest = rest.0 },
         All-cons (λ (run : Interval). run.last < n) _ runs spaced.1.in_type rest.1,
       )
+
+  -- The intervals of spaced ranges are spaced in the type.
+  spaced-in : (gap : ℕ) (ranges : List (RangeInclusive T)) → AreSpacedFrom gap 0 ranges
+      → IsSpacedIn gap n (intervals_of rank ranges)
+  spaced-in gap ranges spaced =
+      let all = spaced-list gap 0 ranges spaced in record { spaced = all.0; within = all.1 }
 
   -- Ranges sorted by start are a list sorted by start.
   starts-sorted : (low : ℕ) (ranges : List (RangeInclusive T)) → AreByStartsFrom low ranges
@@ -76,12 +82,12 @@ module _ {T : Type 0} (rank : T → ℕ) (n : ℕ) where
   starts-sorted low [] sorted = tt
   starts-sorted low (range ∷ ranges) sorted =
       subst (λ (run : Interval). HasSortedStartsFrom n low (run ∷ intervals_of rank ranges))
-      (sym (whole-interval range sorted.1)) (
-        sorted.0,
-        sorted.1.in_order,
-        sorted.1.in_type,
-        starts-sorted (rank (range_inclusive_start range)) ranges sorted.2,
-      )
+      (sym (whole-interval range sorted.1)) (record {
+        starts = sorted.0;
+        in_order = sorted.1.in_order;
+        in_type = sorted.1.in_type;
+        rest = starts-sorted (rank (range_inclusive_start range)) ranges sorted.2;
+      })
 
 -- ---- arrays
 module _ {T : Type 0} (size : ℕ) (rank : T → ℕ) where
@@ -133,8 +139,7 @@ module _ {T : Type 0} (size : ℕ) (rank : T → ℕ) where
   array-apart n ranges apart s is =
       array-canonical n s
       (subst (λ left. IsCanonicalIn n (intervals_of rank left)) (sym is)
-      (subst (λ law. law (intervals_of rank ranges)) (spaced-canonical n)
-      (spaced-list rank n 2 0 ranges apart)))
+      (spaced-canonical n (intervals_of rank ranges) (spaced-in rank n 2 ranges apart)))
 
   -- An array of ranges that may touch becomes a source of a touching list.
   pub array-touching : (n : ℕ) (ranges : List (RangeInclusive T)) → AreSpacedFrom rank n 1 0 ranges
@@ -143,7 +148,7 @@ module _ {T : Type 0} (size : ℕ) (rank : T → ℕ) where
   array-touching n ranges touching s is =
       array-source (IsTouchingIn n) (spaced-front 1 n) s
       (subst (λ left. IsTouchingIn n (intervals_of rank left)) (sym is)
-      (spaced-list rank n 1 0 ranges touching))
+      (spaced-in rank n 1 ranges touching))
 
   -- An array of ranges sorted by start becomes a source of a list sorted by start.
   pub array-by_starts : (n : ℕ) (ranges : List (RangeInclusive T))

@@ -10,7 +10,7 @@ use Rattle.rsb_integer.specs.declared.integer.Integer.{Ghosts as Elements}
 use Rattle.rsb_integer.proofs.lemmas.Range.{interval_of-some}
 use Rattle.rsb_streams.specs.Fused.{fused_stream, Fused, fused_may_give}
 use Rattle.rsb_streams.specs.PutBack.{fused_of, put_back, HasRoom, IsFresh, IsPutBack}
-use Rattle.rsb_streams.specs.PutBackLaws.{put_back-answered, put_back-sorted}
+use Rattle.rsb_streams.specs.laws.PutBack.{put_back-answered, put_back-sorted}
 use Rattle.rsb_streams.specs.Rows.{IsAnswered, IsSorted}
 use Rattle.rsb_streams.specs.Stream.{◌⊆◌, after, just, outcomes_unless, HasSortedStarts, IsDrawn}
 use Rattle.rsb_streams.specs.declared.draw.Draw.{Ghosts as Stream}
@@ -55,23 +55,30 @@ module _ {S T N : Type 0} (integer : Elements T N) (source : Stream S T N) where
       (runs : List Interval)
       → before ≡ None → held ≡ Some range → t ≡ s
       → after rank held (fused_may_give source.may_give t) runs
-      → (rest : List Interval) × after rank before (fused_may_give source.may_give s) rest
-      × (runs ≡ interval_of rank range ∷ rest)
+      → record {
+        rest : List Interval;
+        given : after rank before (fused_may_give source.may_give s) rest;
+        is : runs ≡ interval_of rank range ∷ rest;
+      }
   may-by range before held s t runs room is same may =
       let first = subst (λ each. after rank each (fused_may_give source.may_give s) runs) is
-      (subst (λ each. after rank held (fused_may_give source.may_give each) runs) same may) in (
-        first.0,
-        subst (λ each. after rank each (fused_may_give source.may_give s) first.0) (sym room)
-            first.1,
-        first.2,
-      )
+      (subst (λ each. after rank held (fused_may_give source.may_give each) runs) same may) in
+      record {
+        rest = first.rest;
+        given = subst (λ each. after rank each (fused_may_give source.may_give s) first.rest)
+            (sym room) first.given;
+        is = first.is;
+      }
 
   -- The range that is put back comes first, followed by what was still to come.
   pub put_back-may : (range : RangeInclusive T) (s t : PutBack T S) (runs : List Interval)
       → HasRoom s
       → IsPutBack range s t → held_source.may_give t runs
-      → (rest : List Interval) × held_source.may_give s rest
-      × (runs ≡ interval_of rank range ∷ rest)
+      → record {
+        rest : List Interval;
+        given : held_source.may_give s rest;
+        is : runs ≡ interval_of rank range ∷ rest;
+      }
   put_back-may range s t runs room put may =
       may-by range s.held t.held (fused_of s) (fused_of t) runs room put.held put.iter may
 
@@ -86,7 +93,7 @@ module _ {S T N : Type 0} (integer : Elements T N) (source : Stream S T N) where
     callable = subst (fused_stream source).can_draw (sym put.iter) ready.callable;
     sorted = λ runs may.
         let first = put_back-may range s t runs room put may in
-        subst (HasSortedStarts n) (sym first.2) (sorted first.0 first.1);
+        subst (HasSortedStarts n) (sym first.is) (sorted first.rest first.given);
   }
 
   -- One more range is left than before.

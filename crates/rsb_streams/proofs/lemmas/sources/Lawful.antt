@@ -11,10 +11,10 @@ use Rattle.rsb_integer.specs.Runs.{Interval, IsCanonicalIn}
 use Rattle.rsb_integer.proofs.lemmas.Canonical.{canonical-front}
 use Rattle.rsb_streams.specs.Adapters.{NextIsDraw}
 use Rattle.rsb_streams.specs.Calls.{Call, IsSource}
-use Rattle.rsb_streams.specs.CallsLaws.{calls-steps}
-use Rattle.rsb_streams.specs.StreamLaws.{settled_canonical_in, settled_sorted, settled_spaced}
+use Rattle.rsb_streams.specs.laws.Calls.{calls-steps}
+use Rattle.rsb_streams.specs.laws.Stream.{settled_canonical_in, settled_sorted, settled_spaced}
 use Rattle.rsb_streams.specs.Touching.{IsTouchingIn}
-use Rattle.rsb_streams.specs.TouchingLaws.{touching-canonical_in}
+use Rattle.rsb_streams.specs.laws.Touching.{touching-canonical_in}
 use Rattle.rsb_streams.proofs.lemmas.checking.Spaced.{spaced-front}
 use Rattle.rsb_streams.specs.Stream.{◌⊆◌, HasSortedStarts, HasSortedStartsFrom}
 use Rattle.rsb_streams.proofs.lemmas.sources.Known.{IsLawful}
@@ -24,8 +24,12 @@ pub sorted-front : (n low : ℕ) (runs others : List Interval)
     → HasSortedStartsFrom n low (runs ++ others)
     → HasSortedStartsFrom n low runs
 sorted-front n low [] others sorted = tt
-sorted-front n low (run ∷ runs) others sorted =
-    (sorted.0, sorted.1, sorted.2, sorted-front n run.first runs others sorted.3)
+sorted-front n low (run ∷ runs) others sorted = record {
+  starts = sorted.starts;
+  in_order = sorted.in_order;
+  in_type = sorted.in_type;
+  rest = sorted-front n run.first runs others sorted.rest;
+}
 
 module _ {S T N : Type 0} (integer : Elements T N) (source : Stream S T N)
     (next : Iteration S (RangeInclusive T)) (laws : IsLawful integer source)

@@ -9,7 +9,7 @@ use Rattle.rsb_integer.specs.Rank.{interval_of, intervals_of}
 use Rattle.rsb_integer.specs.Runs.{IsCanonicalIn}
 use Rattle.rsb_integer.proofs.lemmas.Canonical.{canonical-front, canonical-tail}
 use Rattle.rsb_streams.specs.Calls.{Call, IsSource, calls_give}
-use Rattle.rsb_streams.specs.CallsLaws.{calls-steps}
+use Rattle.rsb_streams.specs.laws.Calls.{calls-steps}
 use Rattle.rsb_streams.specs.Stream.{◌⊆◌, just}
 
 module _ {S T : Type 0} (rank : T → ℕ) (iterator : Iteration S (RangeInclusive T))

@@ -8,15 +8,15 @@ use Rattle.std.specs.Iterator.{IsFinite, MakesProgress}
 use Rattle.std.specs.Iterator.Adapters.{fuse_done, fuse_source, fuse_steps}
 use Rattle.rsb_integer.specs.Runs.{Interval}
 use Rattle.rsb_streams.specs.Calls.{IsSource}
-use Rattle.rsb_streams.specs.CallsLaws.{source-after}
-use Rattle.rsb_streams.specs.StreamLaws.{sorted-lower}
+use Rattle.rsb_streams.specs.laws.Calls.{source-after}
+use Rattle.rsb_streams.specs.laws.Stream.{sorted-lower}
 use Rattle.rsb_streams.specs.Stream.{HasSortedStarts}
 use Rattle.rsb_streams.specs.Fused.{fuse_can_next, fuse_remaining}
 
 -- What follows the first interval of a list sorted by start is also sorted by start.
 pub sorted-tail : (n : ℕ) (run : Interval) (runs : List Interval) → HasSortedStarts n (run ∷ runs)
     → HasSortedStarts n runs
-sorted-tail n run runs sorted = sorted-lower n run.first 0 runs (omega arith) sorted.3
+sorted-tail n run runs sorted = sorted-lower n run.first 0 runs (omega arith) sorted.rest
 
 module _ {I T : Type 0} (rank : T → ℕ) (iterator : Iteration I (RangeInclusive T))
     (law : List Interval → Type 0)

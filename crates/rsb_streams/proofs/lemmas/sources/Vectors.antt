@@ -12,7 +12,7 @@ use Rattle.rsb_integer.specs.Rank.{interval_of, intervals_of}
 use Rattle.rsb_integer.specs.Runs.{Interval, IsCanonicalIn}
 use Rattle.rsb_integer.proofs.lemmas.Canonical.{canonical-front}
 use Rattle.rsb_streams.specs.Calls.{Call, IsSource, calls_give}
-use Rattle.rsb_streams.specs.CallsLaws.{calls-steps}
+use Rattle.rsb_streams.specs.laws.Calls.{calls-steps}
 use Rattle.rsb_streams.specs.Stream.{◌⊆◌, just, HasSortedStarts}
 use Rattle.rsb_streams.specs.Touching.{IsTouchingIn}
 use Rattle.rsb_streams.proofs.lemmas.sources.Lawful.{sorted-front}

@@ -1,4 +1,4 @@
-use Rattle.rsb_streams.specs.CallsLaws.{known-sorted}
+use Rattle.rsb_streams.specs.laws.Calls.{known-sorted}
 use Rattle.rsb_streams.specs.Stream.{HasSortedStarts}
 use Rattle.rsb_streams.proofs.lemmas.sources.OneCall.{sorted-tail, source-goes}
 use Rattle.rsb_streams.proofs.assume_sorted_starts.AssumeSortedStartsIterator.next.Goals as goal

@@ -2,8 +2,9 @@ use Rattle.std.proofs.Common.{◌+◌, take, refl, sym, ap, ◌∙◌, subst}
 use Rattle.rsb_integer.specs.Rank.{intervals_of}
 use Rattle.rsb_integer.specs.Runs.{AllEndBelow}
 use Rattle.rsb_streams.specs.OutOfPlace.{IsFirstBad}
-use Rattle.rsb_streams.specs.StreamLaws.{spaced-canonical}
+use Rattle.rsb_streams.specs.laws.Stream.{canonical-spaced, spaced-canonical}
 use Rattle.rsb_streams.specs.Touching.{IsSpacedIn}
+use Rattle.rsb_streams.proofs.lemmas.checking.FirstFault.{first_bad-along}
 use Rattle.rsb_streams.proofs.lemmas.sources.Vectors.{vec-calls, vec-source}
 use Rattle.rsb_streams.proofs.check_sorted_disjoint.CheckSortedDisjoint+T+IntoIter+RangeInclusive+T+A.try_new.Goals as goal
 
@@ -16,7 +17,7 @@ returns-in-Some-clause-ok g c = (
       let n = g.T.Integer.value_count in
       let none = c.in-Some.ensures.none.1
       (subst (λ items. IsSpacedIn 2 n (intervals_of rank items)) (sym c.deref.ensures.value)
-      (subst (λ law. law (intervals_of rank c.args.ranges.items)) (sym (spaced-canonical n)) canonical)) in
+      (canonical-spaced n (intervals_of rank c.args.ranges.items) canonical)) in
       absurd (cc)),
 )
 
@@ -24,8 +25,7 @@ pub returns-in-Some-clause-position : goal.returns-in-Some-clause-position
 returns-in-Some-clause-position g c =
     let rank = g.T.Integer.rank in
     let n = g.T.Integer.value_count in
-    subst (λ law. IsFirstBad law (intervals_of rank c.args.ranges.items) c.in-Some.position)
-    (spaced-canonical n)
+    first_bad-along (spaced-canonical n) (canonical-spaced n)
     (subst (λ items. IsFirstBad (IsSpacedIn 2 n) (intervals_of rank items) c.in-Some.position)
     c.deref.ensures.value c.in-Some.ensures.bad)
 
@@ -41,7 +41,7 @@ new-requires g c = λ source becomes.
     let rank = g.T.Integer.rank in
     let n = g.T.Integer.value_count in
     vec-source rank n source
-    (subst (λ law. law (intervals_of rank source.rest.items)) (spaced-canonical n)
+    (spaced-canonical n (intervals_of rank source.rest.items)
     (subst (λ items. IsSpacedIn 2 n (intervals_of rank items))
     (c.deref.ensures.value ∙ sym becomes.0) (c.in_default.ensures.none.0 refl)))
 
@@ -50,7 +50,7 @@ returns-clause-ok g c = (
   (λ _.
       let rank = g.T.Integer.rank in
       let n = g.T.Integer.value_count in
-      subst (λ law. law (intervals_of rank c.args.ranges.items)) (spaced-canonical n)
+      spaced-canonical n (intervals_of rank c.args.ranges.items)
       (subst (λ items. IsSpacedIn 2 n (intervals_of rank items)) c.deref.ensures.value
       (c.in_default.ensures.none.0 refl))),
   (λ _. refl),

@@ -1,6 +1,6 @@
 use Rattle.rsb_integer.specs.Runs.{IsCanonicalIn}
 use Rattle.rsb_integer.proofs.lemmas.Canonical.{canonical-tail}
-use Rattle.rsb_streams.specs.CallsLaws.{known-disjoint}
+use Rattle.rsb_streams.specs.laws.Calls.{known-disjoint}
 use Rattle.rsb_streams.proofs.lemmas.sources.OneCall.{source-goes}
 use Rattle.rsb_streams.proofs.check_sorted_disjoint.CheckSortedDisjointIterator.next.Goals as goal
 

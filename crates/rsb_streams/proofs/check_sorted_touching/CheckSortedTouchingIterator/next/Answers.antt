@@ -1,4 +1,4 @@
-use Rattle.rsb_streams.specs.CallsLaws.{known-touching}
+use Rattle.rsb_streams.specs.laws.Calls.{known-touching}
 use Rattle.rsb_streams.specs.Touching.{IsTouchingIn}
 use Rattle.rsb_streams.proofs.lemmas.checking.Spaced.{spaced-tail}
 use Rattle.rsb_streams.proofs.lemmas.sources.OneCall.{source-goes}

@@ -22,6 +22,6 @@ returns-clause-gives g c = λ runs may nothing.
     (fresh-may g.T.Integer g.R.Draw c.args.right c.of.result.right c.of.ensures.right second also)
     all)
 
-pub returns-clause-new : goal.returns-clause-new
-returns-clause-new g c = merges-undrawn g.T.Integer g.L.Draw g.R.Draw c.args.left c.args.right
+pub returns-clause-undrawn : goal.returns-clause-undrawn
+returns-clause-undrawn g c = merges-undrawn g.T.Integer g.L.Draw g.R.Draw c.args.left c.args.right
     c.of.result c.of.ensures.left c.of.ensures.right

@@ -1,11 +1,10 @@
 use Rattle.std.proofs.Common.{◌<◌, sym, ◌∙◌, subst}
-use Rattle.std.proofs.lemmas.List.Elements.{All-nil}
 use Rattle.rsb_integer.specs.Rank.{interval_of}
-use Rattle.rsb_integer.specs.Runs.{Interval}
 use Rattle.rsb_streams.proofs.lemmas.checking.Fresh.{none-if_empty, one-canonical, one-if_some}
 use Rattle.rsb_streams.proofs.lemmas.checking.Comparisons.{IsRanked, empty-ranks, ends-below, some-ranks}
 use Rattle.rsb_streams.proofs.range_once.RangeOnceFromRangeInclusive.from.Given.{Over}
 use Rattle.rsb_streams.proofs.range_once.RangeOnceFromRangeInclusive.from.Goals as goal
+use Rattle.rsb_integer.proofs.lemmas.Canonical.{canonical-none}
 
 ranked : (g : Over) → IsRanked g.T.Integer.rank g.T.Integer.value_count g.T.PartialOrd.partial_cmp
     g.T.Ord.cmp
@@ -21,7 +20,7 @@ returns-then-is_empty g c =
     let empty = empty-ranks (ranked g) c.args.range
     left right c.if-is_empty.ensures in
     record {
-      ready = (tt, All-nil (λ (run : Interval). run.last < n));
+      ready = canonical-none n;
       gives = λ runs at. at ∙ sym (none-if_empty (interval_of rank c.args.range) empty);
     }
 

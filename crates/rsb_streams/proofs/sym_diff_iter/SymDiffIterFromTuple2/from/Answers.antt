@@ -1,8 +1,8 @@
 use Rattle.rsb_integer.specs.Runs.{IsCanonicalFrom}
 use Rattle.rsb_streams.specs.Merge.{merge}
-use Rattle.rsb_streams.specs.MergeLaws.{merge-sorted}
+use Rattle.rsb_streams.specs.laws.Merge.{merge-sorted}
 use Rattle.rsb_streams.specs.OddPieces.{odd_pieces}
-use Rattle.rsb_streams.specs.OddPiecesLaws.{odd_pieces-sorted}
+use Rattle.rsb_streams.specs.laws.OddPieces.{odd_pieces-sorted}
 use Rattle.rsb_streams.specs.Stream.{◌⊆◌, merges}
 use Rattle.rsb_streams.proofs.lemmas.odd.Ends.{fresh-going, fresh-pieces}
 use Rattle.rsb_streams.proofs.lemmas.sources.Known.{fresh-may, fresh-ready}
@@ -32,9 +32,9 @@ returns g c = λ left_can right_can.
     (fresh-may g.T.Integer g.L.Draw first both.left c.of-merge.ensures.left one also)
     (fresh-may g.T.Integer g.R.Draw second both.right c.of-merge.ensures.right two too) all) in
     let left_runs : g.L.Draw.may_give first ⊆ IsCanonicalFrom 0 =
-    λ runs at. (g.met.L.DrawDisjoint.canonical first left_can runs at).0 in
+    λ runs at. (g.met.L.DrawDisjoint.canonical first left_can runs at).apart in
     let right_runs : g.R.Draw.may_give second ⊆ IsCanonicalFrom 0 =
-    λ runs at. (g.met.R.DrawDisjoint.canonical second right_can runs at).0 in
+    λ runs at. (g.met.R.DrawDisjoint.canonical second right_can runs at).apart in
     let odd_ready : pieces.can_draw told =
     fresh-going g.T.Integer merged both told c.over.ensures.source c.over.ensures.none ready
     (λ given at. merges-twofold n (g.L.Draw.may_give first) (g.R.Draw.may_give second) left_runs

@@ -1,5 +1,5 @@
 use Rattle.rsb_streams.specs.Merge.{merge}
-use Rattle.rsb_streams.specs.MergeLaws.{merge-sorted}
+use Rattle.rsb_streams.specs.laws.Merge.{merge-sorted}
 use Rattle.rsb_streams.proofs.lemmas.lookahead.Ahead.{unites-undrawn}
 use Rattle.rsb_streams.proofs.lemmas.calling.Operations.{union-of_merge}
 use Rattle.rsb_streams.proofs.lemmas.sources.Known.{fresh-may, fresh-ready}
@@ -22,15 +22,17 @@ returns g c = λ left_can right_can.
     let kept = merge-sorted g.T.Integer g.L.Draw g.R.Draw g.met.L.Draw.sorted
     g.met.R.Draw.sorted both ready in
     record {
-      ready = fresh-ready g.T.Integer merged both c.over.result.iter c.over.ensures ready kept.all;
-      gives = λ runs may. union-of_merge n (g.L.Draw.may_give first) (g.R.Draw.may_give second)
-          (merged.may_give both)
-          (λ given at nothing. at (λ one two also too all. nothing one two
-          (fresh-may g.T.Integer g.L.Draw first both.left c.of-merge.ensures.left one also)
-          (fresh-may g.T.Integer g.R.Draw second both.right c.of-merge.ensures.right two too) all))
-          runs
-          (λ nothing. may (λ given at all. nothing given
-          (fresh-may g.T.Integer merged both c.over.result.iter c.over.ensures given at) all));
-      new = unites-undrawn g.T.Integer g.L.Draw g.R.Draw first second both
+      made = record {
+        ready = fresh-ready g.T.Integer merged both c.over.result.iter c.over.ensures ready kept.all;
+        gives = λ runs may. union-of_merge n (g.L.Draw.may_give first) (g.R.Draw.may_give second)
+            (merged.may_give both)
+            (λ given at nothing. at (λ one two also too all. nothing one two
+            (fresh-may g.T.Integer g.L.Draw first both.left c.of-merge.ensures.left one also)
+            (fresh-may g.T.Integer g.R.Draw second both.right c.of-merge.ensures.right two too) all))
+            runs
+            (λ nothing. may (λ given at all. nothing given
+            (fresh-may g.T.Integer merged both c.over.result.iter c.over.ensures given at) all));
+      };
+      undrawn = unites-undrawn g.T.Integer g.L.Draw g.R.Draw first second both
           c.of-merge.ensures.left c.of-merge.ensures.right c.over.result c.over.ensures;
     }

@@ -1,4 +1,4 @@
-use Rattle.rsb_streams.specs.AdapterLaws.{filter-drawn}
+use Rattle.rsb_streams.specs.laws.Adapter.{filter-drawn}
 use Rattle.rsb_streams.proofs.lemmas.sources.Known.{drawn-call, goes-drawn}
 use Rattle.rsb_streams.proofs.std_markers.filter.FilterDraw.draw.Goals as goal
 

@@ -1,4 +1,4 @@
-use Rattle.rsb_streams.specs.AdapterLaws.{skip-drawn}
+use Rattle.rsb_streams.specs.laws.Adapter.{skip-drawn}
 use Rattle.rsb_streams.proofs.lemmas.sources.Known.{drawn-call}
 use Rattle.rsb_streams.proofs.std_markers.skip.SkipDraw.draw.Goals as goal
 

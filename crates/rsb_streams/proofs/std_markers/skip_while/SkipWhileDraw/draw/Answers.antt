@@ -1,4 +1,4 @@
-use Rattle.rsb_streams.specs.AdapterLaws.{skip_while-drawn}
+use Rattle.rsb_streams.specs.laws.Adapter.{skip_while-drawn}
 use Rattle.rsb_streams.proofs.lemmas.sources.Known.{drawn-call, goes-drawn}
 use Rattle.rsb_streams.proofs.std_markers.skip_while.SkipWhileDraw.draw.Goals as goal
 

@@ -1,4 +1,4 @@
-use Rattle.rsb_streams.specs.AdapterLaws.{take-drawn}
+use Rattle.rsb_streams.specs.laws.Adapter.{take-drawn}
 use Rattle.rsb_streams.proofs.lemmas.sources.Known.{drawn-call}
 use Rattle.rsb_streams.proofs.std_markers.take.TakeDraw.draw.Goals as goal
 

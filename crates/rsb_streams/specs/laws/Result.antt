@@ -3,17 +3,17 @@ use Rattle.rsb_integer.specs.declared.integer.Integer.{Ghosts as Elements}
 use Rattle.rsb_streams.specs.Difference.{difference_row}
 use Rattle.rsb_streams.specs.Intersection.{intersection_row}
 use Rattle.rsb_streams.specs.Merge.{merge}
-use Rattle.rsb_streams.specs.MergeLaws.{merge-sorted}
+use Rattle.rsb_streams.specs.laws.Merge.{merge-sorted}
 use Rattle.rsb_streams.specs.NotIter.{not_iter}
-use Rattle.rsb_streams.specs.NotIterLaws.{not_iter-disjoint}
+use Rattle.rsb_streams.specs.laws.NotIter.{not_iter-disjoint}
 use Rattle.rsb_streams.specs.OddPieces.{odd_pieces}
-use Rattle.rsb_streams.specs.OddPiecesLaws.{odd_pieces-sorted}
-use Rattle.rsb_streams.specs.StreamLaws.{disjoint-sorted}
+use Rattle.rsb_streams.specs.laws.OddPieces.{odd_pieces-sorted}
+use Rattle.rsb_streams.specs.laws.Stream.{disjoint-sorted}
 use Rattle.rsb_streams.specs.Rows.{IsDisjoint, IsSorted}
 use Rattle.rsb_streams.specs.SymDiffIter.{sym_diff}
 use Rattle.rsb_streams.specs.Union.{union_row}
 use Rattle.rsb_streams.specs.UnionIter.{union_iter}
-use Rattle.rsb_streams.specs.UnionIterLaws.{union_iter-disjoint}
+use Rattle.rsb_streams.specs.laws.UnionIter.{union_iter-disjoint}
 use Rattle.rsb_streams.specs.declared.draw.Draw.{Ghosts as Stream}
 
 -- The complement of a stream is sorted by start.

@@ -1,16 +1,16 @@
 -- The law of a complement: it is canonical.
-use Rattle.std.proofs.Common.{◌+◌, ◌<◌, [], refl}
-use Rattle.std.proofs.lemmas.List.Elements.{All-nil}
+use Rattle.std.proofs.Common.{◌+◌, [], refl}
 use Rattle.std.specs.Prelude.{Option, Some, None, IfSome, is_none}
 use Rattle.std.specs.Iterator.{count_map, count_unless}
-use Rattle.rsb_integer.specs.Runs.{Interval, members, IsCanonicalIn}
+use Rattle.rsb_integer.specs.Runs.{members, IsCanonicalIn}
 use Rattle.rsb_integer.specs.declared.integer.Integer.{Ghosts as Elements}
 use Rattle.rsb_integer.proofs.lemmas.Runs.{runs-canonical}
 use Rattle.rsb_streams.specs.NotIter.{gaps_after, not_iter, NotReady}
-use Rattle.rsb_streams.specs.StreamLaws.{runs-exist, settled_canonical_in}
+use Rattle.rsb_streams.specs.laws.Stream.{runs-exist, settled_canonical_in}
 use Rattle.rsb_streams.specs.Rows.{IsDisjoint, IsSorted}
 use Rattle.rsb_streams.specs.Stream.{gaps_from, Keeps}
 use Rattle.rsb_streams.specs.declared.draw.Draw.{Ghosts as Stream}
+use Rattle.rsb_integer.proofs.lemmas.Canonical.{canonical-none}
 
 module _ {T N I : Type 0} (integer : Elements T N) (stream : Stream I T N) where
   open integer use {rank, value_count as n}
@@ -23,7 +23,7 @@ module _ {T N I : Type 0} (integer : Elements T N) (stream : Stream I T N) where
       (count_unless (is_none start) (count_map (λ left. left + 1) (stream.draws_left iter)))
   keeps-by sorted None iter ready = record {
     some = λ never. never [] refl;
-    all = λ runs may. rw may (tt, All-nil (λ (run : Interval). run.last < n));
+    all = λ runs may. rw may (canonical-none n);
     ends = tt;
   }
   keeps-by sorted (Some start) iter ready =

@@ -1,6 +1,5 @@
 -- Parts of what a stream may give satisfy its laws.
-use Rattle.std.proofs.Common.{◌≡◌, ℕ, ◌<◌, Bool, true, false, List, [], take, drop, refl, inl, inr}
-use Rattle.std.proofs.lemmas.List.Elements.{All-nil}
+use Rattle.std.proofs.Common.{◌≡◌, ℕ, Bool, true, false, List, [], take, drop, refl, inl, inr}
 use Rattle.std.specs.Prelude.{Option, MatchBool}
 use Rattle.std.specs.Iterator.{Count, IsFinite}
 use Rattle.std.specs.Iterator.Adapters.{fuse_done, fuse_source}
@@ -9,10 +8,11 @@ use Rattle.rsb_integer.specs.Prefix.{IsPrefix, IsSuffix}
 use Rattle.rsb_integer.specs.Runs.{Interval, IsCanonicalIn}
 use Rattle.rsb_streams.specs.Adapters.{IsSkipped, part_of}
 use Rattle.rsb_streams.specs.Fused.{fuse_can_next, fuse_may_give}
-use Rattle.rsb_streams.specs.StreamLaws.{settled_canonical_in, settled_sorted}
+use Rattle.rsb_streams.specs.laws.Stream.{settled_canonical_in, settled_sorted}
 use Rattle.rsb_streams.specs.Stream.{Outcomes, ◌⊆◌, HasSortedStarts, Keeps, outcomes_unless}
 use Rattle.rsb_streams.specs.Sublists.{IsSublist}
-use Rattle.rsb_streams.specs.SublistsLaws.{sublist-after, sublist-all, sublist-canonical, sublist-drop, sublist-front, sublist-none, sublist-sorted, sublist-take}
+use Rattle.rsb_streams.specs.laws.Sublists.{sublist-after, sublist-all, sublist-canonical, sublist-drop, sublist-front, sublist-none, sublist-sorted, sublist-take}
+use Rattle.rsb_integer.proofs.lemmas.Canonical.{canonical-none}
 
 -- Whether each part of a list is a sublist of it, and each list has a part.
 pub record IsPart (Part : List Interval → List Interval → Type 0) : Type 0 where
@@ -91,7 +91,7 @@ module _ (n : ℕ) {Part : List Interval → List Interval → Type 0} (part : I
 fuse-canonical_by : (n : ℕ) (done : Bool) (P : Outcomes) → (done ≡ false → P ⊆ IsCanonicalIn n)
     → outcomes_unless done P ⊆ IsCanonicalIn n
 fuse-canonical_by n true P canonical runs may =
-    rw may (tt, All-nil (λ (run : Interval). run.last < n))
+    rw may (canonical-none n)
 fuse-canonical_by n false P canonical runs may = canonical refl runs may
 
 pub fuse-canonical : {S : Type 0} (n : ℕ) (may_give : S → Outcomes) (can : S → Type 0)

@@ -9,9 +9,9 @@ use Rattle.rsb_integer.specs.Rank.{interval_of, intervals_of}
 use Rattle.rsb_integer.specs.Runs.{Interval, AllEndBelow, IsCanonicalIn}
 use Rattle.rsb_streams.specs.Ascending.{Ascends, AscendsBy, AscendsTouching}
 use Rattle.rsb_streams.specs.Calls.{gives_by}
-use Rattle.rsb_streams.specs.CallsLaws.{gives_by-some}
+use Rattle.rsb_streams.specs.laws.Calls.{gives_by-some}
 use Rattle.rsb_streams.specs.Stream.{Keeps}
-use Rattle.rsb_streams.specs.StreamLaws.{spaced-canonical}
+use Rattle.rsb_streams.specs.laws.Stream.{keeps-weaker, spaced-canonical}
 use Rattle.rsb_streams.specs.Touching.{IsSpacedFrom, IsSpacedIn, IsTouchingIn}
 
 module _ {S T : Type 0} (rank : T → ℕ) (n : ℕ) (can_next : S → Type 0)
@@ -30,7 +30,11 @@ module _ {S T : Type 0} (rank : T → ℕ) (n : ℕ) (can_next : S → Type 0)
         let run = interval_of rank range in
         let call = ascends s all.0 range can all.1 in
         let rest = spaced-from ranges all.0 t (run.last + gap) call.nearer.0 call.past all.2 in (
-          (omega (arith, least, call.from_low), call.in_order, rest.0),
+          record {
+            starts = omega (arith, least, call.from_low);
+            in_order = call.in_order;
+            rest = rest.0;
+          },
           All-cons (λ (each : Interval). each.last < n) run (intervals_of rank ranges)
               call.in_type rest.1,
         )
@@ -45,7 +49,8 @@ module _ {S T : Type 0} (rank : T → ℕ) (n : ℕ) (can_next : S → Type 0)
           (size (remaining s)) s can (omega arith);
       all = λ runs at.
           let fronts = spaced-from at.0 s at.1 0 can (omega arith) at.3 in
-          subst (IsSpacedIn gap n) (sym at.2) (fronts.0, fronts.1);
+          subst (IsSpacedIn gap n) (sym at.2)
+          (record { spaced = fronts.0; within = fronts.1 });
       ends = finite;
     }
 
@@ -55,8 +60,7 @@ module _ {S T : Type 0} (rank : T → ℕ) (n : ℕ) (can_next : S → Type 0)
       → (s : S) → can_next s → IsFinite (remaining s)
       → Keeps (IsCanonicalIn n) (gives_by rank steps s) (remaining s)
   ascending-keeps ascends s can finite =
-      subst (λ law. Keeps law (gives_by rank steps s) (remaining s)) (spaced-canonical n)
-      (spaced-keeps 2 ascends s can finite)
+      keeps-weaker (spaced-canonical n) (spaced-keeps 2 ascends s can finite)
 
   -- If ranges may touch, all that the stream may give ascends and may touch.
   pub touching-keeps : ((s t : S) (range : RangeInclusive T) → can_next s → steps s (Some range) t

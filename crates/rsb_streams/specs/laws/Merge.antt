@@ -6,9 +6,9 @@ use Rattle.rsb_integer.specs.Runs.{Interval}
 use Rattle.rsb_integer.specs.declared.integer.Integer.{Ghosts as Elements}
 use Rattle.rsb_integer.proofs.lemmas.List.{true_or_false}
 use Rattle.rsb_streams.specs.Merge.{merge}
-use Rattle.rsb_streams.specs.StreamLaws.{settled_sorted}
+use Rattle.rsb_streams.specs.laws.Stream.{settled_sorted}
 use Rattle.rsb_streams.specs.PutBack.{put_back}
-use Rattle.rsb_streams.specs.PutBackLaws.{put_back-sorted}
+use Rattle.rsb_streams.specs.laws.PutBack.{put_back-sorted}
 use Rattle.rsb_streams.specs.Rows.{IsSorted}
 use Rattle.rsb_streams.specs.Stream.{Outcomes, merges, HasSortedStarts, HasSortedStartsFrom, IsMergeOf, Keeps}
 use Rattle.rsb_streams.specs.declared.draw.Draw.{Ghosts as Stream}
@@ -22,10 +22,36 @@ pub merge-starts : (n low : ℕ) (left right runs : List Interval) → HasSorted
 merge-starts n low left right [] first second sorted merged = tt
 merge-starts n low left right (run ∷ runs) first second sorted merged =
     let starts : low ≤ run.first = elim merged [
-      | inl from_left ↦ let head = rw from_left.1 at first in head.0
-      | inr from_right ↦ let head = rw from_right.1 at second in head.0
+      | inl from_left ↦ let head = rw from_left.1 at first in head.starts
+      | inr from_right ↦ let head = rw from_right.1 at second in head.starts
     ] in
-    (starts, sorted.1, sorted.2, sorted.3)
+    record {
+      starts = starts;
+      in_order = sorted.in_order;
+      in_type = sorted.in_type;
+      rest = sorted.rest;
+    }
+
+-- A list that is sorted by start may be replaced after its first interval.
+pub merged-from : (n low : ℕ) (run : Interval) (runs others : List Interval)
+    → HasSortedStartsFrom n low (run ∷ others) → HasSortedStartsFrom n run.first runs
+    → HasSortedStartsFrom n low (run ∷ runs)
+merged-from n low run runs others sorted rest = record {
+  starts = sorted.starts;
+  in_order = sorted.in_order;
+  in_type = sorted.in_type;
+  rest = rest;
+}
+
+-- A list sorted by start may be seen from each rank up to its first one.
+pub sorted-raise : (n low lower : ℕ) (run : Interval) (runs : List Interval) → lower ≤ run.first
+    → HasSortedStartsFrom n low (run ∷ runs) → HasSortedStartsFrom n lower (run ∷ runs)
+sorted-raise n low lower run runs starts sorted = record {
+  starts = starts;
+  in_order = sorted.in_order;
+  in_type = sorted.in_type;
+  rest = sorted.rest;
+}
 
 -- Two lists sorted by start have a merge. `size` is at least the sum of their lengths.
 merge-from : (n size low : ℕ) (left right : List Interval) → length left + length right ≤ size
@@ -35,23 +61,23 @@ merge-from n size low [] [] within first second = ([], tt, (refl, refl))
 merge-from n zero low (run ∷ left) right within first second = absurd (omega arith)
 merge-from n zero low [] (run ∷ right) within first second = absurd (omega arith)
 merge-from n (suc size) low (run ∷ left) [] within first second =
-    let rest = merge-from n size run.first left [] (omega arith) first.3 tt in
-    (run ∷ rest.0, (first.0, first.1, first.2, rest.1), inl (left, refl, rest.2))
+    let rest = merge-from n size run.first left [] (omega arith) first.rest tt in
+    (run ∷ rest.0, merged-from n low run rest.0 left first rest.1, inl (left, refl, rest.2))
 merge-from n (suc size) low [] (run ∷ right) within first second =
-    let rest = merge-from n size run.first [] right (omega arith) tt second.3 in
-    (run ∷ rest.0, (second.0, second.1, second.2, rest.1), inr (right, refl, rest.2))
+    let rest = merge-from n size run.first [] right (omega arith) tt second.rest in
+    (run ∷ rest.0, merged-from n low run rest.0 right second rest.1, inr (right, refl, rest.2))
 merge-from n (suc size) low (run ∷ left) (other ∷ right) within first second = elim
     (cases_lt run.first other.first) [
       | inl less ↦
           let later : HasSortedStartsFrom n run.first (other ∷ right) =
-          (omega arith, second.1, second.2, second.3) in
-          let rest = merge-from n size run.first left (other ∷ right) (omega arith) first.3 later in
-          (run ∷ rest.0, (first.0, first.1, first.2, rest.1), inl (left, refl, rest.2))
+          sorted-raise n low run.first other right (omega arith) second in
+          let rest = merge-from n size run.first left (other ∷ right) (omega arith) first.rest later in
+          (run ∷ rest.0, merged-from n low run rest.0 left first rest.1, inl (left, refl, rest.2))
       | inr most ↦
           let later : HasSortedStartsFrom n other.first (run ∷ left)
-          = (most, first.1, first.2, first.3) in
-          let rest = merge-from n size other.first (run ∷ left) right (omega arith) later second.3 in
-          (other ∷ rest.0, (second.0, second.1, second.2, rest.1), inr (right, refl, rest.2))
+          = sorted-raise n low other.first run left most first in
+          let rest = merge-from n size other.first (run ∷ left) right (omega arith) later second.rest in
+          (other ∷ rest.0, merged-from n low other rest.0 right second rest.1, inr (right, refl, rest.2))
     ]
 
 -- Two lists sorted by start have a merge.

@@ -17,14 +17,14 @@ use Rattle.std.specs.declared.ops.RangeInclusive.{RangeInclusive}
 use Rattle.rsb_integer.specs.Prefix.{IsPrefix, IsSuffix}
 use Rattle.rsb_integer.specs.Runs.{Interval}
 use Rattle.rsb_integer.specs.declared.integer.Integer.{Ghosts as Elements}
-use Rattle.rsb_streams.specs.AdapterCallLaws.{filter-gives, fuse-gives, skip-gives, skip_while-gives, take-gives, take_while-gives}
+use Rattle.rsb_streams.specs.laws.AdapterCall.{filter-gives, fuse-gives, skip-gives, skip_while-gives, take-gives, take_while-gives}
 use Rattle.rsb_streams.specs.Adapters.{adapter_stream, filter_draws, fuse_draws, IsSkipped, NextIsDraw, part_of, skip_draws, skip_while_draws, take_draws, take_while_draws}
 use Rattle.rsb_streams.specs.Fused.{fuse_can_next, fuse_remaining}
-use Rattle.rsb_streams.specs.FusedLaws.{fuse-keeps}
-use Rattle.rsb_streams.specs.PartLaws.{front-is_part, part-keeps, rest-is_part, skip-is_part, sublist-is_part, take-is_part}
+use Rattle.rsb_streams.specs.laws.Fused.{fuse-keeps}
+use Rattle.rsb_streams.specs.laws.Part.{front-is_part, part-keeps, rest-is_part, skip-is_part, sublist-is_part, take-is_part}
 use Rattle.rsb_streams.specs.Rows.{IsAnswered, IsSorted}
 use Rattle.rsb_streams.specs.Stream.{Outcomes, Answers, HasOutcome, HasSortedStarts, Keeps, outcomes_unless}
-use Rattle.rsb_streams.specs.SublistsLaws.{sublist-none}
+use Rattle.rsb_streams.specs.laws.Sublists.{sublist-none}
 use Rattle.rsb_streams.specs.declared.draw.Draw.{Ghosts as Stream}
 use denote.Param.Members.{Mut}
 use denote.Ref.{Bor}

@@ -4,9 +4,9 @@ use Rattle.std.specs.Iterator.{Count}
 use Rattle.rsb_integer.specs.Runs.{Interval, members, IsCanonicalIn}
 use Rattle.rsb_integer.specs.declared.integer.Integer.{Ghosts as Elements}
 use Rattle.rsb_integer.proofs.lemmas.Runs.{runs-canonical}
-use Rattle.rsb_streams.specs.StreamLaws.{runs-exist, settled_canonical_in}
+use Rattle.rsb_streams.specs.laws.Stream.{runs-exist, settled_canonical_in}
 use Rattle.rsb_streams.specs.PutBack.{put_back}
-use Rattle.rsb_streams.specs.PutBackLaws.{put_back-sorted}
+use Rattle.rsb_streams.specs.laws.PutBack.{put_back-sorted}
 use Rattle.rsb_streams.specs.Rows.{IsDisjoint, IsSorted}
 use Rattle.rsb_streams.specs.Stream.{Outcomes, joined_runs, HasSortedStarts, Keeps}
 use Rattle.rsb_streams.specs.UnionIter.{union_iter}

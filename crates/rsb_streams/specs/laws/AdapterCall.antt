@@ -21,7 +21,7 @@ use Rattle.rsb_integer.specs.Runs.{Interval}
 use Rattle.rsb_streams.specs.Adapters.{IsSkipped, filter_may_give, skip_may_give, skip_while_may_give, take_may_give, take_while_may_give}
 use Rattle.rsb_streams.specs.Fused.{fuse_may_give}
 use Rattle.rsb_streams.specs.Stream.{Outcomes, Answers, outcomes_unless}
-use Rattle.rsb_streams.specs.SublistsLaws.{sublist-after}
+use Rattle.rsb_streams.specs.laws.Sublists.{sublist-after}
 use denote.Param.Members.{Mut}
 use denote.Ref.{Bor}
 

@@ -7,13 +7,14 @@ use Rattle.std.specs.declared.ops.RangeInclusive.{RangeInclusive}
 use Rattle.rsb_integer.specs.Rank.{interval_of, intervals_of}
 use Rattle.rsb_integer.specs.Runs.{Interval, IsCanonicalIn}
 use Rattle.rsb_integer.specs.declared.integer.Integer.{Ghosts as Elements}
-use Rattle.std.proofs.lemmas.List.Elements.{All-nil}
 use Rattle.rsb_streams.specs.Calls.{calls, gives_by, Call, IsSource}
 use Rattle.rsb_streams.specs.Fused.{fuse}
-use Rattle.rsb_streams.specs.FusedLaws.{fuse-answered, fuse-keeps}
+use Rattle.rsb_streams.specs.laws.Fused.{fuse-answered, fuse-keeps}
 use Rattle.rsb_streams.specs.Rows.{IsAnswered, IsDisjoint, IsSorted, KeepsLaw}
 use Rattle.rsb_streams.specs.Stream.{Answers, HasOutcome, HasSortedStarts}
 use Rattle.rsb_streams.specs.Touching.{IsTouchingIn}
+use Rattle.rsb_integer.proofs.lemmas.Canonical.{canonical-none}
+use Rattle.rsb_streams.specs.laws.Stream.{spaced-none}
 
 module _ {S T : Type 0} (rank : T → ℕ) (call : S → Option (RangeInclusive T) → S → Type 0) where
   -- A call fits what may be given: what it returned comes first, followed by what later calls give.
@@ -104,7 +105,7 @@ module _ {I T N : Type 0} (integer : Elements T N) (iterator : Iteration I (Rang
       IsDisjoint integer (fuse (calls integer iterator (IsCanonicalIn integer.value_count)))
   known-disjoint = fuse-keeps (calls integer iterator (IsCanonicalIn integer.value_count))
       (IsCanonicalIn integer.value_count)
-      (tt, All-nil (λ (run : Interval). run.last < integer.value_count))
+      (canonical-none integer.value_count)
       (calls-keeps (IsCanonicalIn integer.value_count))
 
   -- What is known to be sorted by start is sorted by start in a `Fuse`.
@@ -119,5 +120,5 @@ module _ {I T N : Type 0} (integer : Elements T N) (iterator : Iteration I (Rang
       (fuse (calls integer iterator (IsTouchingIn integer.value_count)))
   known-touching = fuse-keeps (calls integer iterator (IsTouchingIn integer.value_count))
       (IsTouchingIn integer.value_count)
-      (tt, All-nil (λ (run : Interval). run.last < integer.value_count))
+      (spaced-none 1 integer.value_count)
       (calls-keeps (IsTouchingIn integer.value_count))

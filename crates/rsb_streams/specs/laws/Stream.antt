@@ -13,7 +13,7 @@ use Rattle.rsb_integer.proofs.lemmas.Canonical.{canonical-lower}
 use Rattle.rsb_integer.proofs.lemmas.Members.{members-below, members-head, members-tail, covers-cases}
 use Rattle.rsb_integer.proofs.lemmas.Runs.{runs-from_canonical}
 use Rattle.rsb_streams.specs.Rows.{IsDisjoint, IsSorted}
-use Rattle.rsb_streams.specs.Stream.{Outcomes, HasSortedStartsFrom, HasSortedStarts, IsDrawn, Keeps}
+use Rattle.rsb_streams.specs.Stream.{Outcomes, ◌⊆◌, HasSortedStartsFrom, HasSortedStarts, IsDrawn, Keeps}
 use Rattle.rsb_streams.specs.Touching.{IsSpacedFrom, IsSpacedIn}
 use Rattle.rsb_streams.specs.declared.draw.Draw.{Ghosts as Stream}
 
@@ -24,22 +24,39 @@ spaced-canonical_from : (low : ℕ) (runs : List Interval)
     → IsSpacedFrom 2 low runs ≡ IsCanonicalFrom low runs
 spaced-canonical_from low [] = refl
 spaced-canonical_from low (run ∷ runs) =
-    ap (λ rest. (low ≤ run.first) × (run.first ≤ run.last) × rest)
+    ap (λ rest. record { starts : low ≤ run.first; in_order : run.first ≤ run.last; rest : rest })
     (spaced-canonical_from (run.last + 2) runs)
 
-pub spaced-canonical : (n : ℕ) → IsSpacedIn 2 n ≡ IsCanonicalIn n
-spaced-canonical n = λ i runs. spaced-canonical_from 0 runs i × AllEndBelow n runs
+-- A list that is spaced with a gap of 2 in a type is canonical in it.
+pub spaced-canonical : (n : ℕ) → IsSpacedIn 2 n ⊆ IsCanonicalIn n
+spaced-canonical n runs spaced = record {
+  apart = subst (λ fact. fact) (spaced-canonical_from 0 runs) spaced.spaced;
+  within = spaced.within;
+}
+
+-- A list that is canonical in a type is spaced with a gap of 2 in it.
+pub canonical-spaced : (n : ℕ) → IsCanonicalIn n ⊆ IsSpacedIn 2 n
+canonical-spaced n runs canonical = record {
+  spaced = subst (λ fact. fact) (sym (spaced-canonical_from 0 runs)) canonical.apart;
+  within = canonical.within;
+}
+
+-- The empty list is spaced.
+pub spaced-none : (gap n : ℕ) → IsSpacedIn gap n []
+spaced-none gap n = record { spaced = tt; within = All-nil (λ (run : Interval). run.last < n) }
 
 -- A spaced list is also one with a lesser gap, from a lower rank.
 pub spaced-weaker : (gap less low lower : ℕ) (runs : List Interval) → less ≤ gap → lower ≤ low
     → IsSpacedFrom gap low runs → IsSpacedFrom less lower runs
 spaced-weaker gap less low lower [] fewer below spaced = tt
 spaced-weaker gap less low lower (run ∷ runs) fewer below spaced =
-    let starts = spaced.0 in (
-      omega arith,
-      spaced.1,
-      spaced-weaker gap less (run.last + gap) (run.last + less) runs fewer (omega arith) spaced.2,
-    )
+    let starts = spaced.starts in
+    record {
+      starts = omega arith;
+      in_order = spaced.in_order;
+      rest = spaced-weaker gap less (run.last + gap) (run.last + less) runs fewer (omega arith)
+          spaced.rest;
+    }
 
 -- ---- a decidable fact holds if its failure is excluded
 
@@ -61,11 +78,11 @@ settled_lt a b holds = elim (cases_lt a b) [
 settled_spaced_from : (gap low : ℕ) (runs : List Interval) → ¬ (¬ (IsSpacedFrom gap low runs))
     → IsSpacedFrom gap low runs
 settled_spaced_from gap low [] holds = tt
-settled_spaced_from gap low (run ∷ runs) holds = (
-  settled_le low run.first (λ fails. holds (λ all. fails all.0)),
-  settled_le run.first run.last (λ fails. holds (λ all. fails all.1)),
-  settled_spaced_from gap (run.last + gap) runs (λ fails. holds (λ all. fails all.2)),
-)
+settled_spaced_from gap low (run ∷ runs) holds = record {
+  starts = settled_le low run.first (λ fails. holds (λ all. fails all.starts));
+  in_order = settled_le run.first run.last (λ fails. holds (λ all. fails all.in_order));
+  rest = settled_spaced_from gap (run.last + gap) runs (λ fails. holds (λ all. fails all.rest));
+}
 
 -- Every interval of a list ends below n if the contrary is excluded.
 settled_below : (n : ℕ) (runs : List Interval) → ¬ (¬ (AllEndBelow n runs)) → AllEndBelow n runs
@@ -79,28 +96,28 @@ settled_below n (run ∷ runs) holds =
 -- A list is spaced in a type of n values if the contrary is excluded.
 pub settled_spaced : (gap n : ℕ) (runs : List Interval) → ¬ (¬ (IsSpacedIn gap n runs))
     → IsSpacedIn gap n runs
-settled_spaced gap n runs holds = (
-  settled_spaced_from gap 0 runs (λ fails. holds (λ all. fails all.0)),
-  settled_below n runs (λ fails. holds (λ all. fails all.1)),
-)
+settled_spaced gap n runs holds = record {
+  spaced = settled_spaced_from gap 0 runs (λ fails. holds (λ all. fails all.spaced));
+  within = settled_below n runs (λ fails. holds (λ all. fails all.within));
+}
 
 -- A list is canonical in a type of n values if the contrary is excluded.
 pub settled_canonical_in : (n : ℕ) (runs : List Interval) → ¬ (¬ (IsCanonicalIn n runs))
     → IsCanonicalIn n runs
-settled_canonical_in n =
-    subst (λ (law : List Interval → Type 0). (runs : List Interval) → ¬ (¬ (law runs)) → law runs)
-    (spaced-canonical n) (settled_spaced 2 n)
+settled_canonical_in n runs holds =
+    spaced-canonical n runs (settled_spaced 2 n runs
+    (λ fails. holds (λ canonical. fails (canonical-spaced n runs canonical))))
 
 -- A list is sorted by start if the contrary is excluded.
 pub settled_sorted : (n low : ℕ) (runs : List Interval) → ¬ (¬ (HasSortedStartsFrom n low runs))
     → HasSortedStartsFrom n low runs
 settled_sorted n low [] holds = tt
-settled_sorted n low (run ∷ runs) holds = (
-  settled_le low run.first (λ fails. holds (λ all. fails all.0)),
-  settled_le run.first run.last (λ fails. holds (λ all. fails all.1)),
-  settled_lt run.last n (λ fails. holds (λ all. fails all.2)),
-  settled_sorted n run.first runs (λ fails. holds (λ all. fails all.3)),
-)
+settled_sorted n low (run ∷ runs) holds = record {
+  starts = settled_le low run.first (λ fails. holds (λ all. fails all.starts));
+  in_order = settled_le run.first run.last (λ fails. holds (λ all. fails all.in_order));
+  in_type = settled_lt run.last n (λ fails. holds (λ all. fails all.in_type));
+  rest = settled_sorted n run.first runs (λ fails. holds (λ all. fails all.rest));
+}
 
 -- ---- lists sorted by start
 
@@ -109,7 +126,13 @@ pub sorted-lower : (n low lower : ℕ) (runs : List Interval) → lower ≤ low
     → HasSortedStartsFrom n low runs → HasSortedStartsFrom n lower runs
 sorted-lower n low lower [] less sorted = tt
 sorted-lower n low lower (run ∷ runs) less sorted =
-    let starts = sorted.0 in (omega arith, sorted.1, sorted.2, sorted.3)
+    let starts = sorted.starts in
+    record {
+      starts = omega arith;
+      in_order = sorted.in_order;
+      in_type = sorted.in_type;
+      rest = sorted.rest;
+    }
 
 -- A spaced list is sorted by start.
 spaced-sorted : (gap n low : ℕ) (runs : List Interval) → IsSpacedFrom gap low runs
@@ -118,13 +141,14 @@ spaced-sorted : (gap n low : ℕ) (runs : List Interval) → IsSpacedFrom gap lo
 spaced-sorted gap n low [] spaced below = tt
 spaced-sorted gap n low (run ∷ runs) spaced below =
     let P : Interval → Type 0 = λ each. each.last < n in
-    let ordered = spaced.1 in (
-      spaced.0,
-      ordered,
-      All-head P run runs below,
-      sorted-lower n (run.last + gap) run.first runs (omega arith)
-          (spaced-sorted gap n (run.last + gap) runs spaced.2 (All-tail P run runs below)),
-    )
+    let ordered = spaced.in_order in
+    record {
+      starts = spaced.starts;
+      in_order = ordered;
+      in_type = All-head P run runs below;
+      rest = sorted-lower n (run.last + gap) run.first runs (omega arith)
+          (spaced-sorted gap n (run.last + gap) runs spaced.rest (All-tail P run runs below));
+    }
 
 -- A canonical list is sorted by start.
 pub canonical-sorted : (n low : ℕ) (runs : List Interval) → IsCanonicalFrom low runs
@@ -133,25 +157,28 @@ pub canonical-sorted : (n low : ℕ) (runs : List Interval) → IsCanonicalFrom 
 canonical-sorted n low runs canonical =
     spaced-sorted 2 n low runs (subst (λ fact. fact) (sym (spaced-canonical_from low runs)) canonical)
 
+-- What a stream may give satisfies each law that follows from one that it satisfies.
+pub keeps-weaker : {law other : List Interval → Type 0} {P : Outcomes} {remaining : Count}
+    → law ⊆ other → Keeps law P remaining → Keeps other P remaining
+keeps-weaker follows kept = record {
+  some = kept.some;
+  all = λ runs may. follows runs (kept.all runs may);
+  ends = kept.ends;
+}
+
 -- If a stream may give only spaced lists, they are sorted by start.
 pub spaced-starts : (gap n : ℕ) (P : Outcomes) (remaining : Count)
     → Keeps (IsSpacedIn gap n) P remaining
     → Keeps (HasSortedStarts n) P remaining
-spaced-starts gap n P remaining kept = record {
-  some = kept.some;
-  all = λ runs may.
-      let spaced = kept.all runs may in
-      spaced-sorted gap n 0 runs spaced.0 spaced.1;
-  ends = kept.ends;
-}
+spaced-starts gap n P remaining =
+    keeps-weaker (λ runs all. spaced-sorted gap n 0 runs all.spaced all.within)
 
 -- If a stream may give only canonical lists, they are sorted by start.
 pub canonical_stream-starts : (n : ℕ) (P : Outcomes) (remaining : Count)
     → Keeps (IsCanonicalIn n) P remaining
     → Keeps (HasSortedStarts n) P remaining
 canonical_stream-starts n P remaining =
-    subst (λ law. Keeps law P remaining → Keeps (HasSortedStarts n) P remaining)
-    (spaced-canonical n) (spaced-starts 2 n P remaining)
+    keeps-weaker (λ runs canonical. canonical-sorted n 0 runs canonical.apart canonical.within)
 
 -- A canonical stream is sorted by start.
 pub disjoint-sorted : {S T N : Type 0} (integer : Elements T N) (stream : Stream S T N)
@@ -164,19 +191,19 @@ pub sorted-below : (n low : ℕ) (runs : List Interval) → HasSortedStartsFrom 
     → AllEndBelow n runs
 sorted-below n low [] sorted = All-nil (λ (run : Interval). run.last < n)
 sorted-below n low (run ∷ runs) sorted =
-    All-cons (λ (each : Interval). each.last < n) run runs sorted.2
-    (sorted-below n run.first runs sorted.3)
+    All-cons (λ (each : Interval). each.last < n) run runs sorted.in_type
+    (sorted-below n run.first runs sorted.rest)
 
 -- No member is below the start of a list sorted by start.
 pub sorted-members : (n low : ℕ) (runs : List Interval) (rank : ℕ) → HasSortedStartsFrom n low runs
     → members runs rank ≡ true → low ≤ rank
 sorted-members n low [] rank sorted member = absurd (cc)
 sorted-members n low (run ∷ runs) rank sorted member =
-    let starts = sorted.0 in
+    let starts = sorted.starts in
     elim (covers-cases run rank) [
       | inl inside ↦ let from = inside.0 in omega arith
       | inr outside ↦
-          let past = sorted-members n run.first runs rank sorted.3
+          let past = sorted-members n run.first runs rank sorted.rest
           (sym (members-tail run runs rank outside.0) ∙ member) in
           omega arith
     ]
@@ -210,7 +237,7 @@ runs-new : (n : ℕ) (selected : Selection) (low : ℕ) (runs : List Interval) �
 runs-new n selected low runs here below apart all =
     let run : Interval = record { first = low; last = low } in
     record {
-      canonical = (omega arith, omega arith, apart);
+      canonical = record { starts = omega arith; in_order = omega arith; rest = apart };
       below = All-cons (λ (each : Interval). each.last < n) run runs below all.below;
       same = λ rank from within. elim (cases_lt low rank) [
         | inl past ↦ members-tail run runs rank (inr past) ∙ all.same rank (omega arith) within
@@ -228,9 +255,13 @@ runs-longer : (n : ℕ) (selected : Selection) (low : ℕ) (run : Interval) (run
 runs-longer n selected low run runs here touching all =
     let P : Interval → Type 0 = λ each. each.last < n in
     let longer : Interval = record { first = low; last = run.last } in
-    let ordered = all.canonical.1 in
+    let ordered = all.canonical.in_order in
     record {
-      canonical = (omega arith, omega arith, all.canonical.2);
+      canonical = record {
+        starts = omega arith;
+        in_order = omega arith;
+        rest = all.canonical.rest;
+      };
       below = All-cons P longer runs (All-head P run runs all.below)
           (All-tail P run runs all.below);
       same = λ rank from within. elim (cases_lt low rank) [
@@ -258,12 +289,17 @@ runs-before : (n : ℕ) (selected : Selection) (low : ℕ) (runs : List Interval
 runs-before n selected low [] here below all =
     (record { first = low; last = low } ∷ [], runs-new n selected low [] here below tt all)
 runs-before n selected low (run ∷ runs) here below all =
-    let starts = all.canonical.0 in
+    let starts = all.canonical.starts in
     elim (cases_lt (low + 1) run.first) [
       | inl apart ↦ (
         record { first = low; last = low } ∷ run ∷ runs,
         runs-new n selected low (run ∷ runs) here below
-            (omega arith, all.canonical.1, all.canonical.2) all,
+            (record {
+              starts = omega arith;
+              in_order = all.canonical.in_order;
+              rest = all.canonical.rest;
+            })
+            all,
       )
       | inr touching ↦ (
         record { first = low; last = run.last } ∷ runs,

@@ -6,7 +6,7 @@ use Rattle.rsb_integer.specs.Rank.{interval_of}
 use Rattle.rsb_integer.specs.Runs.{Interval}
 use Rattle.rsb_integer.specs.declared.integer.Integer.{Ghosts as Elements}
 use Rattle.rsb_streams.specs.Fused.{fused_stream, Fused}
-use Rattle.rsb_streams.specs.FusedLaws.{fused-answered, fused-keeps}
+use Rattle.rsb_streams.specs.laws.Fused.{fused-answered, fused-keeps}
 use Rattle.rsb_streams.specs.PutBack.{fused_of, put_back}
 use Rattle.rsb_streams.specs.Rows.{IsAnswered, IsSorted}
 use Rattle.rsb_streams.specs.Stream.{after, HasOutcome, HasSortedStarts}
@@ -30,11 +30,12 @@ module _ {T N I : Type 0} (integer : Elements T N) (stream : Stream I T N) where
     answers-by (Some held) s t None call = let no = call.0 in absurd (cc)
     answers-by (Some held) s t (Some range) call = λ rest may.
         let is = call.0 in
-        let same : range ≡ held = cc in (
-          rest,
-          subst (λ state. (fused_stream stream).may_give state rest) call.1 may,
-          ap (λ each. interval_of rank each ∷ rest) same,
-        )
+        let same : range ≡ held = cc in
+        record {
+          rest = rest;
+          given = subst (λ state. (fused_stream stream).may_give state rest) call.1 may;
+          is = ap (λ each. interval_of rank each ∷ rest) same;
+        }
 
     -- A call fits what may be given.
     pub put_back-answered : IsAnswered integer (put_back integer stream)
@@ -52,7 +53,8 @@ module _ {T N I : Type 0} (integer : Elements T N) (stream : Stream I T N) where
         → HasOutcome (after rank held ((fused_stream stream).may_give s))
     some-by None s some = some
     some-by (Some range) s some =
-        λ never. some (λ runs may. never (interval_of rank range ∷ runs) (runs, may, refl))
+        λ never. some (λ runs may. never (interval_of rank range ∷ runs)
+        (record { rest = runs; given = may; is = refl }))
 
     -- The stream is sorted by start.
     pub put_back-sorted : IsSorted integer (put_back integer stream)

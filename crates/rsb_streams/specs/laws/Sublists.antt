@@ -3,7 +3,7 @@ use Rattle.std.proofs.Common.{ℕ, zero, suc, ◌+◌, ◌<◌, List, [], ◌∷
 use Rattle.std.proofs.lemmas.List.Elements.{All-cons, All-head, All-nil, All-tail}
 use Rattle.rsb_integer.specs.Runs.{Interval, AllEndBelow, IsCanonicalFrom, IsCanonicalIn}
 use Rattle.rsb_integer.proofs.lemmas.Canonical.{canonical-lower}
-use Rattle.rsb_streams.specs.StreamLaws.{sorted-lower}
+use Rattle.rsb_streams.specs.laws.Stream.{sorted-lower}
 use Rattle.rsb_streams.specs.Stream.{HasSortedStarts, HasSortedStartsFrom}
 use Rattle.rsb_streams.specs.Sublists.{IsSublist}
 
@@ -47,14 +47,14 @@ sublist-sorted_from : (n low : ℕ) (kept all : List Interval) → HasSortedStar
     → IsSublist kept all → HasSortedStartsFrom n low kept
 sublist-sorted_from n low kept [] sorted sub = rw sub tt
 sublist-sorted_from n low kept (run ∷ all) sorted sub = elim sub [
-  | inl without ↦ sorted-lower n run.first low kept sorted.0
-      (sublist-sorted_from n run.first kept all sorted.3 without)
-  | inr taken ↦ rw taken.1 (
-    sorted.0,
-    sorted.1,
-    sorted.2,
-    sublist-sorted_from n run.first taken.0 all sorted.3 taken.2,
-  )
+  | inl without ↦ sorted-lower n run.first low kept sorted.starts
+      (sublist-sorted_from n run.first kept all sorted.rest without)
+  | inr taken ↦ rw taken.1 (record {
+    starts = sorted.starts;
+    in_order = sorted.in_order;
+    in_type = sorted.in_type;
+    rest = sublist-sorted_from n run.first taken.0 all sorted.rest taken.2;
+  })
 ]
 
 pub sublist-sorted : (n : ℕ) (kept all : List Interval) → HasSortedStarts n all
@@ -67,15 +67,15 @@ sublist-canonical_from : (low : ℕ) (kept all : List Interval) → IsCanonicalF
 sublist-canonical_from low kept [] canonical sub = rw sub tt
 sublist-canonical_from low kept (run ∷ all) canonical sub = elim sub [
   | inl without ↦
-      let starts = canonical.0 in
-      let ordered = canonical.1 in
+      let starts = canonical.starts in
+      let ordered = canonical.in_order in
       canonical-lower (run.last + 2) low kept (omega arith)
-      (sublist-canonical_from (run.last + 2) kept all canonical.2 without)
-  | inr taken ↦ rw taken.1 (
-    canonical.0,
-    canonical.1,
-    sublist-canonical_from (run.last + 2) taken.0 all canonical.2 taken.2,
-  )
+      (sublist-canonical_from (run.last + 2) kept all canonical.rest without)
+  | inr taken ↦ rw taken.1 (record {
+    starts = canonical.starts;
+    in_order = canonical.in_order;
+    rest = sublist-canonical_from (run.last + 2) taken.0 all canonical.rest taken.2;
+  })
 ]
 
 -- If all intervals of a list end below n, so do those of a sublist.
@@ -94,5 +94,7 @@ sublist-below n kept (run ∷ all) below sub =
 
 pub sublist-canonical : (n : ℕ) (kept all : List Interval) → IsCanonicalIn n all
     → IsSublist kept all → IsCanonicalIn n kept
-sublist-canonical n kept all canonical sub =
-    (sublist-canonical_from 0 kept all canonical.0 sub, sublist-below n kept all canonical.1 sub)
+sublist-canonical n kept all canonical sub = record {
+  apart = sublist-canonical_from 0 kept all canonical.apart sub;
+  within = sublist-below n kept all canonical.within sub;
+}
