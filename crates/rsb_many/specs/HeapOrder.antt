@@ -1,5 +1,5 @@
 -- The order of a binary heap. The parent of place j is place (j - 1) / 2.
-use Rattle.std.specs.Prelude.{ℕ, ◌-◌, ◌/◌, ◌<◌, ◌≡◌, ◌≢◌, Bool, List, length, slice_index_or, All, IsFalse, IsTrue}
+use Rattle.std.specs.Prelude.{ℕ, cond, nat_eq, ◌-◌, ◌/◌, ◌<◌, ◌≤◌, ◌≡◌, ◌≢◌, Bool, List, drop, length, slice_index_or, sum_by, All, IsFalse, IsTrue}
 use Rattle.rsb_many.specs.Heads.{key_of, HasValues}
 use Rattle.rsb_many.specs.Keys.{comes_before, Key}
 use Rattle.rsb_many.specs.declared.heads.Head.{Head}
@@ -59,10 +59,24 @@ module _ {T : Type 0} (rank : T → ℕ) (heads : List (Head T)) where
     pub lesser : (other : Head T) (next : ℕ) → 0 < next → next < length heads → parent next ≡ place
         → IsFalse (comes_before (key_at other next) (key_at other child))
 
--- What always holds of a heap: its heads have values, and none comes before its parent. While the
--- place at the top is open, the head that came out last is still stored there.
+-- The heads of a list that count: all but the first if its place is open, and otherwise all.
+abbrev pub counted_heads : {T : Type 0} → Bool → List (Head T) → List (Head T)
+counted_heads is_open heads = drop (cond is_open 1 0) heads
+
+-- 1 for a head of the input, and 0 for any other.
+abbrev pub is_of : {T : Type 0} → ℕ → Head T → ℕ
+is_of input head = cond (nat_eq head.input input) 1 0
+
+-- Whether a list has at most one head of each input.
+abbrev pub HasOneOfEach : {T : Type 0} → List (Head T) → Type 0
+HasOneOfEach heads = (input : ℕ) → sum_by (is_of input) heads ≤ 1
+
+-- What always holds of a heap: its heads have values, none comes before its parent, and at most one
+-- that counts belongs to each input. While the place at the top is open, the head that came out
+-- last is still stored there.
 pub record AreKept {T : Type 0} (rank : T → ℕ) (value_count : ℕ) (is_open : Bool)
     (heads : List (Head T)) : Type 0 where
   pub values : All (HasValues rank value_count) heads
   pub order : IsHeap rank heads
   pub some : IsTrue is_open → 0 < length heads
+  pub one : HasOneOfEach (counted_heads is_open heads)

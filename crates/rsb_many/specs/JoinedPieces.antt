@@ -2,7 +2,7 @@
 use Rattle.std.specs.Prelude.{ℕ, List, length}
 use Rattle.rsb_integer.specs.declared.integer.Integer.{Ghosts as Elements}
 use Rattle.rsb_streams.specs.Rows.{stream_asking}
-use Rattle.rsb_streams.specs.Stream.{◌⊆◌, IsMade}
+use Rattle.rsb_streams.specs.Stream.{◌⊆◌}
 use Rattle.rsb_streams.specs.UnionIter.{union_iter}
 use Rattle.rsb_streams.specs.declared.draw.Draw.{Ghosts as Stream}
 use Rattle.rsb_streams.specs.declared.union_iter.UnionIter.{UnionIter}
@@ -32,11 +32,12 @@ module _ {T N I A : Type 0} (integer : Elements T N) (stream : Stream I T N) whe
       (λ s item t. PassesSome (joined_telling s) (joined_telling t))
       JoinedReady pieces_union.draws_left pieces_union.may_give
 
-  -- Whether `result` is ready and gives only runs of what the rule selects from the streams. At
+  -- Whether `result` is ready and gives only runs of what the rule selects from the streams, and at
   -- most one range of each is drawn.
-  abbrev pub MakesJoined : Rule → List I → UnionIter T (SweepPieces T I A N) → Type 0
-  MakesJoined rule streams result = IsMade joined_pieces.can_draw result
-      (joined_pieces.may_give result ⊆ runs_by_all integer.value_count (selected_by rule)
-      (length streams) (may_give_at stream.may_give streams))
-      ((place : ℕ) → IsBegun (may_give_at stream.may_give streams place)
-      ((joined_telling result).inputs place))
+  pub record BeginsJoined (rule : Rule) (streams : List I) (result : UnionIter T (SweepPieces T I A N))
+      : Type 0 where
+    pub ready : joined_pieces.can_draw result
+    pub gives : joined_pieces.may_give result ⊆ runs_by_all integer.value_count (selected_by rule)
+        (length streams) (may_give_at stream.may_give streams)
+    pub begun : (place : ℕ) → IsBegun (may_give_at stream.may_give streams place)
+        ((joined_telling result).inputs place)

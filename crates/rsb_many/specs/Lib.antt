@@ -4,16 +4,13 @@ pub mod HandedIn
 pub mod Heads
 pub mod HeapOrder
 pub mod Inputs
-pub mod InputsLaws
 pub mod JoinedPieces
 pub mod KMerge
-pub mod KMergeLaws
 pub mod Keys
 pub mod Many
-pub mod ManyLaws
 pub mod MultiwayAtLeast
+pub mod MultiwayBegun
 pub mod MultiwayIntersection
-pub mod MultiwayLaws
 pub mod MultiwayResults
 pub mod MultiwaySweep
 pub mod MultiwaySymmetricDifference
@@ -22,4 +19,4 @@ pub mod Rule
 pub mod StreamList
 pub mod Sweep
 pub mod SweepPieces
-pub mod SweepPiecesLaws
+pub mod laws

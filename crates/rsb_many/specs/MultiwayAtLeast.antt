@@ -4,10 +4,10 @@ use Rattle.rsb_integer.specs.Runs.{Interval, members, AreRuns}
 use Rattle.rsb_integer.specs.Selection.{at_least}
 use Rattle.rsb_integer.specs.declared.integer.Integer.{Ghosts as Elements}
 use Rattle.rsb_streams.specs.Rows.{stream_through}
-use Rattle.rsb_streams.specs.Stream.{◌⊆◌, IsMade, Outcomes}
+use Rattle.rsb_streams.specs.Stream.{◌⊆◌, IsReadyAnd, Outcomes}
 use Rattle.rsb_streams.specs.declared.draw.Draw.{Ghosts as Stream}
-use Rattle.rsb_many.specs.JoinedPieces.{joined_pieces, joined_telling}
-use Rattle.rsb_many.specs.Many.{may_give_at, IsBegun, SomeOfEach}
+use Rattle.rsb_many.specs.JoinedPieces.{joined_pieces}
+use Rattle.rsb_many.specs.Many.{may_give_at, SomeOfEach}
 use Rattle.rsb_many.specs.MultiwayResults.{GivesByAll}
 use Rattle.rsb_many.specs.declared.multiway_at_least.MultiwayAtLeast.{MultiwayAtLeast}
 
@@ -27,11 +27,8 @@ module _ {T N I A : Type 0} (integer : Elements T N) (stream : Stream I T N) whe
   multiway_at_least = stream_through (λ s. s.iter) (joined_pieces integer stream)
 
   -- Whether `result` is ready and gives only runs of what lies in at least `least` of the streams.
-  -- At most one range of each is drawn.
   abbrev pub MakesMultiwayAtLeast : ℕ → Stream (MultiwayAtLeast T I A N) T N → List I
       → MultiwayAtLeast T I A N → Type 0
-  MakesMultiwayAtLeast least made streams result = IsMade made.can_draw result
+  MakesMultiwayAtLeast least row streams result = IsReadyAnd row.can_draw result
       (GivesByAll (at_least least) integer.value_count stream.may_give streams
-      (made.may_give result))
-      ((place : ℕ) → IsBegun (may_give_at stream.may_give streams place)
-      ((joined_telling integer stream result.iter).inputs place))
+      (row.may_give result))

@@ -1,18 +1,18 @@
 -- The events of any number of streams, as a sweep gives them.
-use Rattle.std.specs.Prelude.{◌≡◌, ℕ, ◌+◌, ◌*◌, ◌≤◌, Bool, false, cond, nat_eq, ◌&&◌, ◌||◌, List, [], ◌∷◌, length, sum_by, Option, MatchOption}
-use Rattle.std.specs.Iterator.{Count, count_map, IsFinite}
+use Rattle.std.specs.Prelude.{◌≡◌, ℕ, ◌+◌, ◌≤◌, List, [], ◌∷◌, length, Option, MatchOption}
+use Rattle.std.specs.Iterator.{Count, IsFinite}
 use Rattle.rsb_integer.specs.Runs.{Interval}
 use Rattle.rsb_integer.specs.declared.integer.Integer.{Ghosts as Elements}
 use Rattle.rsb_streams.specs.Lookahead.{Ends, GivesFrom, Input, Uses}
 use Rattle.rsb_streams.specs.Stream.{◌⊆◌}
 use Rattle.rsb_streams.specs.Touching.{IsTouching, IsTouchingIn}
 use Rattle.rsb_streams.specs.declared.draw.Draw.{Ghosts as Stream}
-use Rattle.rsb_many.specs.Drawn.{inputs_of, DrawnReady}
-use Rattle.rsb_many.specs.Inputs.{has_ended, input_at, left_of}
+use Rattle.rsb_many.specs.Drawn.{has_begun, inputs_of, DrawnReady}
+use Rattle.rsb_many.specs.Heads.{head_of}
+use Rattle.rsb_many.specs.Inputs.{input_at, inputs_left}
 use Rattle.rsb_many.specs.KMerge.{comparison_bound}
 use Rattle.rsb_many.specs.Many.{gives_of, may_give_at, HoldOneAtMost, IsBegun, SomeOfEach}
 use Rattle.rsb_many.specs.Sweep.{event_of, rests_by, AreEvents, AreEventsOf, End, Event, Start}
-use Rattle.rsb_many.specs.declared.heads.Head.{Head}
 use Rattle.rsb_many.specs.declared.multiway_sweep.MultiwaySweep.{MultiwaySweep}
 use Rattle.rsb_many.specs.declared.sweep_event.SweepEvent.{SweepEvent}
 
@@ -26,17 +26,6 @@ EventOutcomes = List Event → Type 0
 -- cannot exhibit a list.
 abbrev pub HasEvents : EventOutcomes → Type 0
 HasEvents P = ¬ ((events : List Event) → ¬ (P events))
-
--- ---- heads
-
--- Whether a range of the input at a place has started and not ended.
-abbrev pub has_begun : {T : Type 0} → List (Head T) → ℕ → Bool
-has_begun [] place = false
-has_begun (head ∷ heads) place = (nat_eq head.input place && head.started) || has_begun heads place
-
--- How many events of a head's range are to come: one if its start was reported, and otherwise two.
-abbrev pub events_of_head : {T : Type 0} → Head T → ℕ
-events_of_head head = cond head.started 1 2
 
 -- ---- inputs
 
@@ -75,13 +64,12 @@ module _ {T N I A : Type 0} (integer : Elements T N) (stream : Stream I T N) whe
   -- the end of that range is still to come, not its start.
   abbrev pub sweep_may_give : MultiwaySweep T I A N → EventOutcomes
   sweep_may_give s events = SomeOfEach (stream_count s) (λ place. gives_of (sweep_inputs s place))
-      (λ lists. AreEventsOf (rests_by (has_begun s.inputs.heads.heads) lists) events)
+      (λ lists. AreEventsOf
+      (rests_by (λ place. has_begun (head_of s.inputs.heads.heads place)) lists) events)
 
-  -- How many events are left: two for each range to come, and those of the heads.
+  -- How many events are left: two for each range, and one if its start was reported.
   abbrev pub events_left : MultiwaySweep T I A N → Count
-  events_left s = count_map (λ left. 2 * left + sum_by events_of_head s.inputs.heads.heads)
-      (left_of stream.draws_left (has_ended integer stream (inputs_of s.inputs))
-      s.inputs.streams.items)
+  events_left s = inputs_left integer stream 2 (inputs_of s.inputs)
 
   -- Whether the streams are ready, and the ranges of each input ascend and do not overlap. Some
   -- list of their events may come, and it ends.
@@ -111,16 +99,19 @@ module _ {T N I A : Type 0} (integer : Elements T N) (stream : Stream I T N) whe
         ≤ s.inputs.heads.comparisons + comparison_bound (stream_count s)
     pub counted : s.inputs.heads.comparisons ≤ t.inputs.heads.comparisons
 
-  -- Whether `s` is a sweep just built from these streams, whose ranges do not overlap within a
-  -- stream. It is ready, and gives only the events of lists that the streams may give. The first
-  -- range of each is drawn.
+  -- Whether `s` has these streams, and gives only the events of lists that they may give.
   pub record SweepsOver (streams : List I) (s : MultiwaySweep T I A N) : Type 0 where
-    pub touching : (place : ℕ)
-        → may_give_at stream.may_give streams place ⊆ IsTouchingIn integer.value_count
-    pub ready : SweepReady s
     pub gives : (events : List Event) → sweep_may_give s events
         → SomeOfEach (length streams) (may_give_at stream.may_give streams)
         (λ lists. AreEvents lists events)
     pub count : stream_count s ≡ length streams
+
+  -- Whether `s` is that sweep, is ready, and has the first range of each stream drawn and nothing
+  -- more. The ranges of a stream ascend and do not overlap.
+  pub record BeginsSweep (streams : List I) (s : MultiwaySweep T I A N) : Type 0 where
+    pub made : SweepsOver streams s
+    pub ready : SweepReady s
+    pub touching : (place : ℕ)
+        → may_give_at stream.may_give streams place ⊆ IsTouchingIn integer.value_count
     pub begun : (place : ℕ) → IsBegun (may_give_at stream.may_give streams place)
         (sweep_inputs s place)

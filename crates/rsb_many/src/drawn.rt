@@ -1,8 +1,28 @@
 //! Many input streams, with the heads drawn from them.
 
-ghost use Rattle.std.specs.Prelude.{◌≡◌, ◌+◌, ◌*◌, ◌<◌, ◌≤◌, [], length, slice_get, All, IfOk, IfSome, MatchOption, None};
-ghost use Rattle.rsb_many.specs.Drawn.{DrawnReady, HasNoHead, IsBegunOf, PutsBack, Refills, TakesHead};
-ghost use Rattle.rsb_many.specs.Heads.{binary_digits, closing_bound, HasValues};
+ghost use Rattle.std.specs.Prelude.{
+  ◌≡◌,
+  ◌+◌,
+  ◌*◌,
+  ◌<◌,
+  ◌≤◌,
+  length,
+  slice_get,
+  All,
+  IfOk,
+  IfSome,
+  MatchOption,
+  None,
+};
+ghost use Rattle.rsb_many.specs.Drawn.{
+  DrawnReady,
+  HasNoHead,
+  IsBegunOf,
+  PutsBack,
+  Refills,
+  TakesHead,
+};
+ghost use Rattle.rsb_many.specs.Heads.{binary_digits, closing_bound, head_of, HasNone, HasValues};
 ghost use Rattle.rsb_many.specs.Inputs.{DrawsAt};
 
 use crate::heads::{Head, Heads};
@@ -39,7 +59,7 @@ impl<T: Integer, I: Draw<T>, A: Allocator> Drawn<T, I, A> {
     /// Draws the first range of each stream.
     fn begin(&mut self)
         requires can { All I.can_draw self.old.streams.items }
-        requires none { self.old.heads.heads ≡ [] }
+        requires none { HasNone self.old.heads.heads }
         requires used { self.old.used ≡ None }
         requires room { length self.old.streams.items ≤ self.old.heads.room }
         ensures { IsBegunOf T.Integer.own I.Draw self.old.streams.items self.new }
@@ -52,13 +72,15 @@ impl<T: Integer, I: Draw<T>, A: Allocator> Drawn<T, I, A> {
     }
 
     /// Draws a range of the input at a place and adds its head to the others. If the stream has
-    /// ended, no head is added. There must be room for the head.
+    /// ended, no head is added. There must be room for the head, and none of that input.
     fn draw_from(&mut self, place: usize)
         requires place { place < length self.old.streams.items }
         requires ready { IfSome (slice_get self.old.streams.items place) I.can_draw }
+        requires none { head_of self.old.heads.heads place ≡ None }
         requires room { length self.old.heads.heads < self.old.heads.room }
         ensures draws { DrawsAt T.Integer.own I.Draw place self.old.streams.items
-            self.old.heads.heads self.new.streams.items self.new.heads.heads }
+            (head_of self.old.heads.heads) self.new.streams.items (head_of self.new.heads.heads) }
+        ensures count { length self.new.heads.heads ≤ length self.old.heads.heads + 1 }
         ensures used { self.new.used ≡ self.old.used }
         ensures room { self.old.heads.room ≤ self.new.heads.room }
         ensures compared { self.new.heads.comparisons + closing_bound self.new.heads
@@ -100,6 +122,7 @@ impl<T: Integer, I: Draw<T>, A: Allocator> Drawn<T, I, A> {
     /// room for it. No range is due afterwards.
     pub(crate) fn put_back(&mut self, head: Head<T>)
         requires values { HasValues T.rank T.value_count head }
+        requires none { head_of self.old.heads.heads head.input ≡ None }
         requires room { length self.old.heads.heads < self.old.heads.room }
         ensures back { PutsBack self.old head self.new }
         ensures compared { self.new.heads.comparisons ≤ self.old.heads.comparisons

@@ -6,9 +6,9 @@ ghost use Rattle.rsb_integer.specs.Rank.{intervals_of};
 ghost use Rattle.rsb_integer.specs.Runs.{IsCanonicalIn};
 ghost use Rattle.rsb_many.specs.DynSortedDisjoint.{TakesOneMore};
 ghost use Rattle.rsb_streams.specs.Listed.{listed_may_give};
-ghost use Rattle.rsb_streams.specs.ListedLaws.{listed-answers, listed-keeps};
+ghost use Rattle.rsb_streams.specs.laws.Listed.{listed-answers, listed-keeps};
 ghost use Rattle.rsb_streams.specs.Stream.{◌⊆◌};
-ghost use Rattle.rsb_streams.specs.StreamLaws.{canonical_stream-starts, drawn-itself};
+ghost use Rattle.rsb_streams.specs.laws.Stream.{canonical_stream-starts, drawn-itself};
 
 use rsb_integer::Integer;
 use rsb_streams::{Draw, DrawDisjoint, SortedDisjoint, SortedStarts};

@@ -1,15 +1,32 @@
 //! The heads of inputs, in a binary heap (docs/DECISIONS.md, own-heap). Only this module makes and
 //! sees keys.
 
-ghost use Rattle.std.specs.Prelude.{◌≡◌, ◌*◌, ◌+◌, ◌<◌, ◌≤◌, [], ◌∷◌, length, IfOk, IfSome, IsFalse, IsPermutation, MatchOption};
+ghost use Rattle.std.specs.Prelude.{
+  ◌≡◌,
+  ℕ,
+  ◌*◌,
+  ◌+◌,
+  ◌<◌,
+  ◌≤◌,
+  length,
+  IfOk,
+  IfSome,
+  IsFalse,
+  MatchOption,
+  None,
+  Some,
+};
 ghost use Rattle.rsb_integer.specs.Rank.{interval_of};
 ghost use Rattle.rsb_many.specs.Heads.{
   binary_digits,
   closing_bound,
+  head_at_end,
+  head_at_start,
   head_of,
   run_of_head,
-  head_at_end,
+  HasNone,
   HasValues,
+  SetsHead,
   TakesLeastHead,
 };
 
@@ -78,8 +95,8 @@ pub(crate) struct Heads<T: Integer, A: Allocator = Global> {
 
 impl<T: Integer, A: Allocator> Model for Heads<T, A> {
     ghost use Rattle.std.specs.Vec.{vec_capacity};
-    ghost use Rattle.rsb_many.specs.Heads.{counted_heads, HeapView};
-    ghost use Rattle.rsb_many.specs.HeapOrder.{AreKept};
+    ghost use Rattle.rsb_many.specs.Heads.{HeapView};
+    ghost use Rattle.rsb_many.specs.HeapOrder.{counted_heads, AreKept};
 
     ghost Value = { HeapView T };
 
@@ -96,7 +113,7 @@ impl<T: Integer, A: Allocator> Model for Heads<T, A> {
 impl<T: Integer, A: Allocator> Heads<T, A> {
     /// Returns an empty heap with room for the given number of heads.
     pub(crate) fn with_room(alloc: A, room: usize) -> Result<Self, AllocError>
-        ensures none { IfOk result (λ heads. heads.heads ≡ []) }
+        ensures none { IfOk result (λ heads. HasNone heads.heads) }
         ensures room { IfOk result (λ heads. room ≤ heads.room) }
         ensures compared { IfOk result (λ heads. heads.comparisons ≡ 0) }
     {
@@ -107,11 +124,14 @@ impl<T: Integer, A: Allocator> Heads<T, A> {
     }
 
     /// Adds the head of a range that was drawn from an input. The head is at the start of the
-    /// range. There must be room for it.
+    /// range. There must be room for it, and no other head of the input.
     pub(crate) fn push_range(&mut self, range: RangeInclusive<T>, input: usize)
         requires room { length self.old.heads < self.old.room }
-        requires values { HasValues T.rank T.value_count (head_of input range) }
-        ensures kept { IsPermutation (head_of input range ∷ self.old.heads) self.new.heads }
+        requires none { head_of self.old.heads input ≡ None }
+        requires values { HasValues T.rank T.value_count (head_at_start input range) }
+        ensures heads { SetsHead self.old.heads input (Some (head_at_start input range))
+            self.new.heads }
+        ensures count { length self.new.heads ≡ length self.old.heads + 1 }
         ensures closed { IsFalse self.new.is_open }
         ensures room { self.old.room ≤ self.new.room }
         ensures compared { self.new.comparisons
@@ -129,11 +149,13 @@ impl<T: Integer, A: Allocator> Heads<T, A> {
     }
 
     /// Puts a head back, with the start of its range reported. The head is then at the end of the
-    /// range. There must be room for it.
+    /// range. There must be room for it, and no other head of its input.
     pub(crate) fn put_back(&mut self, head: Head<T>)
         requires room { length self.old.heads < self.old.room }
+        requires none { head_of self.old.heads head.input ≡ None }
         requires values { HasValues T.rank T.value_count head }
-        ensures kept { IsPermutation (head_at_end head ∷ self.old.heads) self.new.heads }
+        ensures heads { SetsHead self.old.heads head.input (Some (head_at_end head)) self.new.heads }
+        ensures count { length self.new.heads ≡ length self.old.heads + 1 }
         ensures closed { IsFalse self.new.is_open }
         ensures room { self.old.room ≤ self.new.room }
         ensures compared { self.new.comparisons
@@ -152,8 +174,10 @@ impl<T: Integer, A: Allocator> Heads<T, A> {
     // there.
     fn push(&mut self, head: Head<T>)
         requires room { length self.old.heads < self.old.room }
+        requires none { head_of self.old.heads head.input ≡ None }
         requires values { HasValues T.rank T.value_count head }
-        ensures kept { IsPermutation (head ∷ self.old.heads) self.new.heads }
+        ensures heads { SetsHead self.old.heads head.input (Some head) self.new.heads }
+        ensures count { length self.new.heads ≡ length self.old.heads + 1 }
         ensures closed { IsFalse self.new.is_open }
         ensures room { self.old.room ≤ self.new.room }
         ensures compared { self.new.comparisons
@@ -173,8 +197,8 @@ impl<T: Integer, A: Allocator> Heads<T, A> {
     /// Takes the least head out and returns it, or returns `None` if there is none. Its place stays
     /// open for the next head that is added.
     pub(crate) fn pop(&mut self) -> Option<Head<T>>
-        ensures taken { MatchOption result ((self.old.heads ≡ []) × (self.new.heads ≡ []))
-            (λ head. TakesLeastHead T.rank self.old head self.new) }
+        ensures taken { MatchOption result (HasNone self.old.heads × HasNone self.new.heads)
+            (λ head. TakesLeastHead T.rank self.old.heads head self.new.heads) }
         ensures values { IfSome result (HasValues T.rank T.value_count) }
         ensures room { self.old.room ≤ self.new.room }
         ensures compared { self.new.comparisons ≤ self.old.comparisons + closing_bound self.old }
@@ -190,7 +214,8 @@ impl<T: Integer, A: Allocator> Heads<T, A> {
 
     // Moves the last head to the top, if the place there is open, and down to where it belongs.
     fn close(&mut self)
-        ensures kept { IsPermutation self.old.heads self.new.heads }
+        ensures heads { (input : ℕ) → head_of self.new.heads input ≡ head_of self.old.heads input }
+        ensures count { length self.new.heads ≡ length self.old.heads }
         ensures closed { IsFalse self.new.is_open }
         ensures room { self.old.room ≤ self.new.room }
         ensures compared { self.new.comparisons

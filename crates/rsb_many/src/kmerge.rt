@@ -2,10 +2,10 @@
 
 ghost use Rattle.std.specs.Prelude.{All, IfOk};
 ghost use Rattle.rsb_many.specs.HandedIn.{EachGaveRun};
-ghost use Rattle.rsb_many.specs.KMerge.{kmerge, MakesKMerge};
-ghost use Rattle.rsb_many.specs.KMergeLaws.{kmerge-sorted};
+ghost use Rattle.rsb_many.specs.KMerge.{kmerge, BeginsKMerge, MakesKMerge};
+ghost use Rattle.rsb_many.specs.laws.KMerge.{kmerge-sorted};
 ghost use Rattle.rsb_streams.specs.Items.{GaveRun, IsEnding};
-ghost use Rattle.rsb_streams.specs.StreamLaws.{drawn-itself};
+ghost use Rattle.rsb_streams.specs.laws.Stream.{drawn-itself};
 
 use crate::drawn::Drawn;
 use rsb_integer::Integer;
@@ -33,7 +33,12 @@ impl<T: Integer, I: Draw<T>, A: Allocator + Copy> KMerge<T, I, A> {
         ensures ready { IfOk result ⟦<KMerge<T, I, A> as Draw<T>>⟧.can_draw }
         ensures made { IfOk result (λ merge.
             GaveRun K.into_iter_gives K.IntoIter.next_gives inputs
-            (λ streams. MakesKMerge T.Integer.own I.Draw streams merge)) }
+            (λ streams. MakesKMerge T.Integer.own I.Draw ⟦<KMerge<T, I, A> as Draw<T>>⟧
+            streams merge)) }
+        ensures begun { IfOk result (λ merge.
+            GaveRun K.into_iter_gives K.IntoIter.next_gives inputs
+            (λ streams. BeginsKMerge T.Integer.own I.Draw ⟦<KMerge<T, I, A> as Draw<T>>⟧
+            streams merge)) }
     {
         let streams = Vec::from_iter(alloc, inputs)?;
         KMerge::over(alloc, streams)
@@ -46,7 +51,8 @@ impl<T: Integer, I: Draw<T>, A: Allocator> KMerge<T, I, A> {
     pub(crate) fn over(alloc: A, streams: Vec<I, A>) -> Result<Self, AllocError>
         requires { All I.can_draw streams.items }
         ensures ready { IfOk result ⟦<KMerge<T, I, A> as Draw<T>>⟧.can_draw }
-        ensures made { IfOk result (MakesKMerge T.Integer.own I.Draw streams.items) }
+        ensures begun { IfOk result (BeginsKMerge T.Integer.own I.Draw
+            ⟦<KMerge<T, I, A> as Draw<T>>⟧ streams.items) }
     {
         Ok(KMerge {
             inputs: Drawn::over(alloc, streams)?,

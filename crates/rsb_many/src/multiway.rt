@@ -3,8 +3,14 @@
 ghost use Rattle.std.specs.Prelude.{◌<◌, All, IfOk};
 ghost use Rattle.rsb_many.specs.HandedIn.{EachGaveRun};
 ghost use Rattle.rsb_many.specs.MultiwayAtLeast.{GivesRunsOfAllAtMost, MakesMultiwayAtLeast};
-ghost use Rattle.rsb_many.specs.MultiwayResults.{
+ghost use Rattle.rsb_many.specs.MultiwayBegun.{
   AreComplements,
+  BeginsAtLeast,
+  BeginsIntersection,
+  BeginsSymmetricDifference,
+  BeginsUnion,
+};
+ghost use Rattle.rsb_many.specs.MultiwayResults.{
   MakesMultiwayIntersection,
   MakesMultiwaySymmetricDifference,
   MakesMultiwayUnion,
@@ -42,6 +48,10 @@ pub trait MultiwaySortedDisjoint<T: Integer, I: DrawDisjoint<T>>: IntoIterator<I
             GaveRun Self.into_iter_gives Self.IntoIter.next_gives self
             (λ streams. MakesMultiwayUnion T.Integer.own I.Draw
             ⟦<MultiwayUnion<T, I, A> as Draw<T>>⟧ streams union)) }
+        ensures begun { IfOk result (λ union.
+            GaveRun Self.into_iter_gives Self.IntoIter.next_gives self
+            (λ streams. BeginsUnion T.Integer.own I.Draw
+            ⟦<MultiwayUnion<T, I, A> as Draw<T>>⟧ streams union)) }
     {
         let merge = KMerge::new(alloc, self)?;
         Ok(MultiwayUnion::of(merge))
@@ -63,6 +73,10 @@ pub trait MultiwaySortedDisjoint<T: Integer, I: DrawDisjoint<T>>: IntoIterator<I
         ensures made { IfOk result (λ intersection.
             GaveRun Self.into_iter_gives Self.IntoIter.next_gives self
             (λ streams. MakesMultiwayIntersection T.Integer.own I.Draw
+            ⟦<MultiwayIntersection<T, I, A> as Draw<T>>⟧ streams intersection)) }
+        ensures begun { IfOk result (λ intersection.
+            GaveRun Self.into_iter_gives Self.IntoIter.next_gives self
+            (λ streams. BeginsIntersection T.Integer.own I.Draw
             ⟦<MultiwayIntersection<T, I, A> as Draw<T>>⟧ streams intersection)) }
     {
         let gaps = complements(alloc, self)?;
@@ -87,6 +101,10 @@ pub trait MultiwaySortedDisjoint<T: Integer, I: DrawDisjoint<T>>: IntoIterator<I
             GaveRun Self.into_iter_gives Self.IntoIter.next_gives self
             (λ streams. MakesMultiwaySymmetricDifference T.Integer.own I.Draw
             ⟦<MultiwaySymmetricDifference<T, I, A> as Draw<T>>⟧ streams difference)) }
+        ensures begun { IfOk result (λ difference.
+            GaveRun Self.into_iter_gives Self.IntoIter.next_gives self
+            (λ streams. BeginsSymmetricDifference T.Integer.own I.Draw
+            ⟦<MultiwaySymmetricDifference<T, I, A> as Draw<T>>⟧ streams difference)) }
     {
         let sweep = MultiwaySweep::new(alloc, self)?;
         Ok(MultiwaySymmetricDifference::of(sweep))
@@ -110,6 +128,10 @@ pub trait MultiwaySortedDisjoint<T: Integer, I: DrawDisjoint<T>>: IntoIterator<I
         ensures made { IfOk result (λ deep.
             GaveRun Self.into_iter_gives Self.IntoIter.next_gives self
             (λ streams. MakesMultiwayAtLeast T.Integer.own I.Draw k
+            ⟦<MultiwayAtLeast<T, I, A> as Draw<T>>⟧ streams deep)) }
+        ensures begun { IfOk result (λ deep.
+            GaveRun Self.into_iter_gives Self.IntoIter.next_gives self
+            (λ streams. BeginsAtLeast T.Integer.own I.Draw k
             ⟦<MultiwayAtLeast<T, I, A> as Draw<T>>⟧ streams deep)) }
         ensures run_count { 0 < k → IfOk result (λ deep.
             GaveRun Self.into_iter_gives Self.IntoIter.next_gives self

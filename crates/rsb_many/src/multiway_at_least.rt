@@ -1,14 +1,11 @@
 //! The values in at least the given number of streams.
 
 ghost use Rattle.std.specs.Prelude.{◌<◌, List};
-ghost use Rattle.rsb_streams.specs.StreamLaws.{canonical_stream-starts, drawn-itself};
-ghost use Rattle.rsb_many.specs.MultiwayAtLeast.{
-  multiway_at_least,
-  GivesRunsOfAllAtMost,
-  MakesMultiwayAtLeast,
-};
-ghost use Rattle.rsb_many.specs.MultiwayLaws.{multiway_at_least-disjoint};
-ghost use Rattle.rsb_many.specs.MultiwaySweep.{SweepsOver};
+ghost use Rattle.rsb_streams.specs.laws.Stream.{canonical_stream-starts, drawn-itself};
+ghost use Rattle.rsb_many.specs.MultiwayAtLeast.{multiway_at_least, GivesRunsOfAllAtMost};
+ghost use Rattle.rsb_many.specs.MultiwayBegun.{BeginsAtLeast};
+ghost use Rattle.rsb_many.specs.laws.Multiway.{multiway_at_least-disjoint};
+ghost use Rattle.rsb_many.specs.MultiwaySweep.{BeginsSweep};
 
 use crate::multiway_sweep::MultiwaySweep;
 use crate::sweep_pieces::{Rule, SweepPieces};
@@ -30,12 +27,12 @@ impl<T: Integer, I: Draw<T>, A: Allocator> MultiwayAtLeast<T, I, A> {
     /// Returns the values in at least `least` streams of a sweep that was just built. It draws
     /// nothing more.
     pub(crate) fn of(sweep: MultiwaySweep<T, I, A>, least: usize) -> Self
-        requires { (streams : List I) × SweepsOver T.Integer.own I.Draw streams sweep }
+        requires { (streams : List I) × BeginsSweep T.Integer.own I.Draw streams sweep }
         ensures ready { ⟦<MultiwayAtLeast<T, I, A> as Draw<T>>⟧.can_draw result }
-        ensures made { (streams : List I) → SweepsOver T.Integer.own I.Draw streams sweep
-            → MakesMultiwayAtLeast T.Integer.own I.Draw least
+        ensures begun { (streams : List I) → BeginsSweep T.Integer.own I.Draw streams sweep
+            → BeginsAtLeast T.Integer.own I.Draw least
             ⟦<MultiwayAtLeast<T, I, A> as Draw<T>>⟧ streams result }
-        ensures run_count { (streams : List I) → SweepsOver T.Integer.own I.Draw streams sweep
+        ensures run_count { (streams : List I) → BeginsSweep T.Integer.own I.Draw streams sweep
             → 0 < least → GivesRunsOfAllAtMost least T.value_count I.may_give streams
             (⟦<MultiwayAtLeast<T, I, A> as Draw<T>>⟧.may_give result) }
     {

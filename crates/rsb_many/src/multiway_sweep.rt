@@ -6,6 +6,7 @@ ghost use Rattle.rsb_many.specs.Many.{may_give_at};
 ghost use Rattle.rsb_many.specs.MultiwaySweep.{
   events_left,
   stream_count,
+  BeginsSweep,
   SweepReady,
   Sweeps,
   SweepsOver,
@@ -41,6 +42,9 @@ impl<T: Integer, I: DrawDisjoint<T>, A: Allocator + Copy> MultiwaySweep<T, I, A>
         ensures made { IfOk result (λ sweep.
             GaveRun K.into_iter_gives K.IntoIter.next_gives inputs
             (λ streams. SweepsOver T.Integer.own I.Draw streams sweep)) }
+        ensures begun { IfOk result (λ sweep.
+            GaveRun K.into_iter_gives K.IntoIter.next_gives inputs
+            (λ streams. BeginsSweep T.Integer.own I.Draw streams sweep)) }
     {
         let streams = Vec::from_iter(alloc, inputs)?;
         MultiwaySweep::over(alloc, streams)
@@ -58,6 +62,9 @@ impl<T: Integer, I: SortedTouching<T>, A: Allocator + Copy> MultiwaySweep<T, I, 
         ensures made { IfOk result (λ sweep.
             GaveRun K.into_iter_gives K.IntoIter.next_gives inputs
             (λ streams. SweepsOver T.Integer.own I.Draw streams sweep)) }
+        ensures begun { IfOk result (λ sweep.
+            GaveRun K.into_iter_gives K.IntoIter.next_gives inputs
+            (λ streams. BeginsSweep T.Integer.own I.Draw streams sweep)) }
     {
         let touching = Vec::from_iter(alloc, inputs)?;
         MultiwaySweep::over(alloc, touching)
@@ -71,7 +78,7 @@ impl<T: Integer, I: Draw<T>, A: Allocator> MultiwaySweep<T, I, A> {
         requires can { All I.can_draw streams.items }
         requires touching { (place : ℕ)
             → may_give_at I.may_give streams.items place ⊆ IsTouchingIn T.value_count }
-        ensures { IfOk result (SweepsOver T.Integer.own I.Draw streams.items) }
+        ensures { IfOk result (BeginsSweep T.Integer.own I.Draw streams.items) }
     {
         Ok(MultiwaySweep {
             inputs: Drawn::over(alloc, streams)?,

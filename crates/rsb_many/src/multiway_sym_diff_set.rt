@@ -2,11 +2,12 @@
 
 ghost use Rattle.std.specs.Prelude.{All, IfOk, List};
 ghost use Rattle.rsb_streams.specs.Items.{GaveRun, IsEnding};
-ghost use Rattle.rsb_streams.specs.StreamLaws.{canonical_stream-starts, drawn-itself};
+ghost use Rattle.rsb_streams.specs.laws.Stream.{canonical_stream-starts, drawn-itself};
 ghost use Rattle.rsb_many.specs.HandedIn.{EachGaveRun};
-ghost use Rattle.rsb_many.specs.MultiwayLaws.{multiway_symmetric_difference-disjoint};
+ghost use Rattle.rsb_many.specs.MultiwayBegun.{BeginsSymmetricDifference};
+ghost use Rattle.rsb_many.specs.laws.Multiway.{multiway_symmetric_difference-disjoint};
 ghost use Rattle.rsb_many.specs.MultiwayResults.{MakesMultiwaySymmetricDifference};
-ghost use Rattle.rsb_many.specs.MultiwaySweep.{SweepsOver};
+ghost use Rattle.rsb_many.specs.MultiwaySweep.{BeginsSweep};
 ghost use Rattle.rsb_many.specs.MultiwaySymmetricDifference.{multiway_symmetric_difference};
 
 use crate::multiway_sweep::MultiwaySweep;
@@ -38,6 +39,10 @@ impl<T: Integer, I: SortedTouching<T>, A: Allocator + Copy> MultiwaySymmetricDif
             GaveRun K.into_iter_gives K.IntoIter.next_gives inputs
             (λ streams. MakesMultiwaySymmetricDifference T.Integer.own I.Draw
             ⟦<MultiwaySymmetricDifference<T, I, A> as Draw<T>>⟧ streams difference)) }
+        ensures begun { IfOk result (λ difference.
+            GaveRun K.into_iter_gives K.IntoIter.next_gives inputs
+            (λ streams. BeginsSymmetricDifference T.Integer.own I.Draw
+            ⟦<MultiwaySymmetricDifference<T, I, A> as Draw<T>>⟧ streams difference)) }
     {
         let sweep = MultiwaySweep::new_touching(alloc, inputs)?;
         Ok(MultiwaySymmetricDifference::of(sweep))
@@ -48,10 +53,10 @@ impl<T: Integer, I: Draw<T>, A: Allocator> MultiwaySymmetricDifference<T, I, A> 
     /// Returns the values in an odd number of the streams of a sweep that was just built. It draws
     /// nothing more.
     pub(crate) fn of(sweep: MultiwaySweep<T, I, A>) -> Self
-        requires { (streams : List I) × SweepsOver T.Integer.own I.Draw streams sweep }
+        requires { (streams : List I) × BeginsSweep T.Integer.own I.Draw streams sweep }
         ensures ready { ⟦<MultiwaySymmetricDifference<T, I, A> as Draw<T>>⟧.can_draw result }
-        ensures made { (streams : List I) → SweepsOver T.Integer.own I.Draw streams sweep
-            → MakesMultiwaySymmetricDifference T.Integer.own I.Draw
+        ensures begun { (streams : List I) → BeginsSweep T.Integer.own I.Draw streams sweep
+            → BeginsSymmetricDifference T.Integer.own I.Draw
             ⟦<MultiwaySymmetricDifference<T, I, A> as Draw<T>>⟧ streams result }
     {
         MultiwaySymmetricDifference {

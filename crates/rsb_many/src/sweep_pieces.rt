@@ -3,8 +3,8 @@
 
 ghost use Rattle.std.specs.Iterator.{MakesProgress};
 ghost use Rattle.std.specs.Prelude.{◌≡◌, ◌+◌, ◌<◌, false, IfSome, List};
-ghost use Rattle.rsb_many.specs.JoinedPieces.{joined_pieces, MakesJoined};
-ghost use Rattle.rsb_many.specs.MultiwaySweep.{SweepsOver};
+ghost use Rattle.rsb_many.specs.JoinedPieces.{joined_pieces, BeginsJoined};
+ghost use Rattle.rsb_many.specs.MultiwaySweep.{BeginsSweep};
 ghost use Rattle.rsb_many.specs.Rule.{crosses, depth_after, first_edge, turns_at, CanPass};
 ghost use Rattle.rsb_many.specs.Sweep.{event_of};
 ghost use Rattle.rsb_many.specs.SweepPieces.{
@@ -15,7 +15,7 @@ ghost use Rattle.rsb_many.specs.SweepPieces.{
   PassesEdge,
   PassesEvent,
 };
-ghost use Rattle.rsb_many.specs.SweepPiecesLaws.{sweep_pieces-sorted};
+ghost use Rattle.rsb_many.specs.laws.SweepPieces.{sweep_pieces-sorted};
 
 use crate::multiway_sweep::MultiwaySweep;
 use crate::sweep_event::SweepEvent;
@@ -86,10 +86,10 @@ impl<T: Integer, I: Draw<T>, A: Allocator> SweepPieces<T, I, A> {
     /// Returns the values that the rule selects from the streams of a sweep that was just built. It
     /// draws nothing more.
     pub(crate) fn joined(sweep: MultiwaySweep<T, I, A>, rule: Rule) -> UnionIter<T, Self>
-        requires { (streams : List I) × SweepsOver T.Integer.own I.Draw streams sweep }
+        requires { (streams : List I) × BeginsSweep T.Integer.own I.Draw streams sweep }
         ensures ready { (joined_pieces T.Integer.own I.Draw).can_draw result }
-        ensures made { (streams : List I) → SweepsOver T.Integer.own I.Draw streams sweep
-            → MakesJoined T.Integer.own I.Draw rule streams result }
+        ensures begun { (streams : List I) → BeginsSweep T.Integer.own I.Draw streams sweep
+            → BeginsJoined T.Integer.own I.Draw rule streams result }
     {
         UnionIter::new(SweepPieces::over(sweep, rule))
     }

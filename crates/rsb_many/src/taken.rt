@@ -4,6 +4,11 @@
 
 ghost use Rattle.std.specs.Prelude.{All, IfOk, IsOkAnd};
 ghost use Rattle.rsb_many.specs.DynSortedDisjoint.{TakesOneMore};
+ghost use Rattle.rsb_many.specs.MultiwayBegun.{
+  BeginsIntersection,
+  BeginsSymmetricDifference,
+  BeginsUnion,
+};
 ghost use Rattle.rsb_many.specs.MultiwayResults.{
   MakesMultiwayIntersection,
   MakesMultiwaySymmetricDifference,
@@ -50,6 +55,9 @@ pub fn union_of_taken<T: Integer, A: Allocator + Copy>(
     ensures made { IfOk result (λ union. IsOkAnd taken (λ streams.
         MakesMultiwayUnion T.Integer.own ⟦<DynSortedDisjoint<T, A> as Draw<T>>⟧
         ⟦<MultiwayUnion<T, DynSortedDisjoint<T, A>, A> as Draw<T>>⟧ streams.items union)) }
+    ensures begun { IfOk result (λ union. IsOkAnd taken (λ streams.
+        BeginsUnion T.Integer.own ⟦<DynSortedDisjoint<T, A> as Draw<T>>⟧
+        ⟦<MultiwayUnion<T, DynSortedDisjoint<T, A>, A> as Draw<T>>⟧ streams.items union)) }
 {
     MultiwaySortedDisjoint::union(taken?, alloc)
 }
@@ -69,6 +77,10 @@ pub fn intersection_of_taken<T: Integer, A: Allocator + Copy>(
         MakesMultiwayIntersection T.Integer.own ⟦<DynSortedDisjoint<T, A> as Draw<T>>⟧
         ⟦<MultiwayIntersection<T, DynSortedDisjoint<T, A>, A> as Draw<T>>⟧ streams.items
         intersection)) }
+    ensures begun { IfOk result (λ intersection. IsOkAnd taken (λ streams.
+        BeginsIntersection T.Integer.own ⟦<DynSortedDisjoint<T, A> as Draw<T>>⟧
+        ⟦<MultiwayIntersection<T, DynSortedDisjoint<T, A>, A> as Draw<T>>⟧ streams.items
+        intersection)) }
 {
     MultiwaySortedDisjoint::intersection(taken?, alloc)
 }
@@ -85,6 +97,10 @@ pub fn symmetric_difference_of_taken<T: Integer, A: Allocator + Copy>(
         ⟦<MultiwaySymmetricDifference<T, DynSortedDisjoint<T, A>, A> as Draw<T>>⟧.can_draw }
     ensures made { IfOk result (λ difference. IsOkAnd taken (λ streams.
         MakesMultiwaySymmetricDifference T.Integer.own ⟦<DynSortedDisjoint<T, A> as Draw<T>>⟧
+        ⟦<MultiwaySymmetricDifference<T, DynSortedDisjoint<T, A>, A> as Draw<T>>⟧ streams.items
+        difference)) }
+    ensures begun { IfOk result (λ difference. IsOkAnd taken (λ streams.
+        BeginsSymmetricDifference T.Integer.own ⟦<DynSortedDisjoint<T, A> as Draw<T>>⟧
         ⟦<MultiwaySymmetricDifference<T, DynSortedDisjoint<T, A>, A> as Draw<T>>⟧ streams.items
         difference)) }
 {

@@ -5,7 +5,6 @@ pub mod Draws
 pub mod GivenList
 pub mod HandedIn
 pub mod HeadLeaves
-pub mod Held
 pub mod Leaves
 pub mod Left
 pub mod OneInput

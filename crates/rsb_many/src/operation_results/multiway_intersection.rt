@@ -1,11 +1,11 @@
 //! The values in all of the given streams.
 
 ghost use Rattle.std.specs.Prelude.{List};
-ghost use Rattle.rsb_streams.specs.StreamLaws.{canonical_stream-starts, drawn-itself};
-ghost use Rattle.rsb_many.specs.KMerge.{MakesKMerge};
+ghost use Rattle.rsb_streams.specs.laws.Stream.{canonical_stream-starts, drawn-itself};
+ghost use Rattle.rsb_many.specs.KMerge.{BeginsKMerge};
+ghost use Rattle.rsb_many.specs.MultiwayBegun.{AreComplements, BeginsIntersection};
 ghost use Rattle.rsb_many.specs.MultiwayIntersection.{multiway_intersection};
-ghost use Rattle.rsb_many.specs.MultiwayLaws.{multiway_intersection-disjoint};
-ghost use Rattle.rsb_many.specs.MultiwayResults.{AreComplements, MakesMultiwayIntersection};
+ghost use Rattle.rsb_many.specs.laws.Multiway.{multiway_intersection-disjoint};
 
 use crate::kmerge::KMerge;
 use crate::operation_results::multiway_union::MultiwayUnion;
@@ -30,10 +30,11 @@ impl<T: Integer, I: Draw<T>, A: Allocator> MultiwayIntersection<T, I, A> {
     pub(crate) fn of(gaps: KMerge<T, NotIter<T, I>, A>) -> Self
         requires { ⟦<KMerge<T, NotIter<T, I>, A> as Draw<T>>⟧.can_draw gaps }
         ensures ready { ⟦<MultiwayIntersection<T, I, A> as Draw<T>>⟧.can_draw result }
-        ensures made { (streams : List I) (complements : List (NotIter T I))
+        ensures begun { (streams : List I) (complements : List (NotIter T I))
             → AreComplements T.Integer.own I.Draw streams complements
-            → MakesKMerge T.Integer.own ⟦<NotIter<T, I> as Draw<T>>⟧ complements gaps
-            → MakesMultiwayIntersection T.Integer.own I.Draw
+            → BeginsKMerge T.Integer.own ⟦<NotIter<T, I> as Draw<T>>⟧
+            ⟦<KMerge<T, NotIter<T, I>, A> as Draw<T>>⟧ complements gaps
+            → BeginsIntersection T.Integer.own I.Draw
             ⟦<MultiwayIntersection<T, I, A> as Draw<T>>⟧ streams result }
     {
         let left_out = MultiwayUnion::of(gaps);

@@ -1,10 +1,10 @@
 //! The values in at least one of the given streams.
 
 ghost use Rattle.std.specs.Prelude.{List};
-ghost use Rattle.rsb_streams.specs.StreamLaws.{canonical_stream-starts, drawn-itself};
-ghost use Rattle.rsb_many.specs.KMerge.{MakesKMerge};
-ghost use Rattle.rsb_many.specs.MultiwayLaws.{multiway_union-disjoint};
-ghost use Rattle.rsb_many.specs.MultiwayResults.{MakesMultiwayUnion};
+ghost use Rattle.rsb_streams.specs.laws.Stream.{canonical_stream-starts, drawn-itself};
+ghost use Rattle.rsb_many.specs.KMerge.{BeginsKMerge};
+ghost use Rattle.rsb_many.specs.MultiwayBegun.{BeginsUnion};
+ghost use Rattle.rsb_many.specs.laws.Multiway.{multiway_union-disjoint};
 ghost use Rattle.rsb_many.specs.MultiwayUnion.{multiway_union};
 
 use crate::kmerge::KMerge;
@@ -29,8 +29,9 @@ impl<T: Integer, I: Draw<T>, A: Allocator> MultiwayUnion<T, I, A> {
     pub(crate) fn of(merge: KMerge<T, I, A>) -> Self
         requires { ⟦<KMerge<T, I, A> as Draw<T>>⟧.can_draw merge }
         ensures ready { ⟦<MultiwayUnion<T, I, A> as Draw<T>>⟧.can_draw result }
-        ensures made { (streams : List I) → MakesKMerge T.Integer.own I.Draw streams merge
-            → MakesMultiwayUnion T.Integer.own I.Draw ⟦<MultiwayUnion<T, I, A> as Draw<T>>⟧
+        ensures begun { (streams : List I)
+            → BeginsKMerge T.Integer.own I.Draw ⟦<KMerge<T, I, A> as Draw<T>>⟧ streams merge
+            → BeginsUnion T.Integer.own I.Draw ⟦<MultiwayUnion<T, I, A> as Draw<T>>⟧
             streams result }
     {
         MultiwayUnion {

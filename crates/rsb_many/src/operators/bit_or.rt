@@ -1,7 +1,7 @@
 //! The operator `|` on results of operations on many streams and on `DynSortedDisjoint`: the union
 //! of two streams.
 
-ghost use Rattle.rsb_streams.specs.Results.{CanDrawBoth, MakesUnion};
+ghost use Rattle.rsb_streams.specs.Results.{CanDrawBoth, MakesUnionUndrawn};
 
 use crate::dyn_sorted_disjoint::DynSortedDisjoint;
 use crate::multiway_at_least::MultiwayAtLeast;
@@ -17,7 +17,8 @@ impl<T: Integer, I: Draw<T>, A: Allocator, R: DrawDisjoint<T>> BitOr<R> for Mult
 
     ghost can_bitor = { CanDrawBoth ⟦<MultiwayUnion<T, I, A> as Draw<T>>⟧ R.Draw };
 
-    ghost bitor_gives = { MakesUnion T.Integer.own ⟦<MultiwayUnion<T, I, A> as Draw<T>>⟧ R.Draw
+    ghost bitor_gives = { MakesUnionUndrawn T.Integer.own
+        ⟦<MultiwayUnion<T, I, A> as Draw<T>>⟧ R.Draw
         ⟦<Union<T, MultiwayUnion<T, I, A>, R> as Draw<T>>⟧ };
 
     fn bitor(self, other: R) -> Self::Output {
@@ -31,7 +32,7 @@ impl<T: Integer, I: Draw<T>, A: Allocator, R: DrawDisjoint<T>> BitOr<R>
 
     ghost can_bitor = { CanDrawBoth ⟦<MultiwayIntersection<T, I, A> as Draw<T>>⟧ R.Draw };
 
-    ghost bitor_gives = { MakesUnion T.Integer.own
+    ghost bitor_gives = { MakesUnionUndrawn T.Integer.own
         ⟦<MultiwayIntersection<T, I, A> as Draw<T>>⟧ R.Draw
         ⟦<Union<T, MultiwayIntersection<T, I, A>, R> as Draw<T>>⟧ };
 
@@ -46,7 +47,7 @@ impl<T: Integer, I: Draw<T>, A: Allocator, R: DrawDisjoint<T>> BitOr<R>
 
     ghost can_bitor = { CanDrawBoth ⟦<MultiwaySymmetricDifference<T, I, A> as Draw<T>>⟧ R.Draw };
 
-    ghost bitor_gives = { MakesUnion T.Integer.own
+    ghost bitor_gives = { MakesUnionUndrawn T.Integer.own
         ⟦<MultiwaySymmetricDifference<T, I, A> as Draw<T>>⟧ R.Draw
         ⟦<Union<T, MultiwaySymmetricDifference<T, I, A>, R> as Draw<T>>⟧ };
 
@@ -61,7 +62,8 @@ impl<T: Integer, I: Draw<T>, A: Allocator, R: DrawDisjoint<T>> BitOr<R>
 
     ghost can_bitor = { CanDrawBoth ⟦<MultiwayAtLeast<T, I, A> as Draw<T>>⟧ R.Draw };
 
-    ghost bitor_gives = { MakesUnion T.Integer.own ⟦<MultiwayAtLeast<T, I, A> as Draw<T>>⟧ R.Draw
+    ghost bitor_gives = { MakesUnionUndrawn T.Integer.own
+        ⟦<MultiwayAtLeast<T, I, A> as Draw<T>>⟧ R.Draw
         ⟦<Union<T, MultiwayAtLeast<T, I, A>, R> as Draw<T>>⟧ };
 
     fn bitor(self, other: R) -> Self::Output {
@@ -74,7 +76,8 @@ impl<T: Integer, A: Allocator, R: DrawDisjoint<T>> BitOr<R> for DynSortedDisjoin
 
     ghost can_bitor = { CanDrawBoth ⟦<DynSortedDisjoint<T, A> as Draw<T>>⟧ R.Draw };
 
-    ghost bitor_gives = { MakesUnion T.Integer.own ⟦<DynSortedDisjoint<T, A> as Draw<T>>⟧ R.Draw
+    ghost bitor_gives = { MakesUnionUndrawn T.Integer.own
+        ⟦<DynSortedDisjoint<T, A> as Draw<T>>⟧ R.Draw
         ⟦<Union<T, DynSortedDisjoint<T, A>, R> as Draw<T>>⟧ };
 
     fn bitor(self, other: R) -> Self::Output {

@@ -1,7 +1,7 @@
 //! The operator `!` on results of operations on many streams and on `DynSortedDisjoint`: the
 //! complement of a stream.
 
-ghost use Rattle.rsb_streams.specs.Results.{MakesComplement};
+ghost use Rattle.rsb_streams.specs.Results.{MakesComplementUndrawn};
 
 use crate::dyn_sorted_disjoint::DynSortedDisjoint;
 use crate::multiway_at_least::MultiwayAtLeast;
@@ -17,7 +17,8 @@ impl<T: Integer, I: Draw<T>, A: Allocator> Not for MultiwayUnion<T, I, A> {
 
     ghost can_not = { ⟦<MultiwayUnion<T, I, A> as Draw<T>>⟧.can_draw };
 
-    ghost not_gives = { MakesComplement T.Integer.own ⟦<MultiwayUnion<T, I, A> as Draw<T>>⟧
+    ghost not_gives = { MakesComplementUndrawn T.Integer.own
+        ⟦<MultiwayUnion<T, I, A> as Draw<T>>⟧
         ⟦<NotIter<T, MultiwayUnion<T, I, A>> as Draw<T>>⟧ };
 
     fn not(self) -> Self::Output {
@@ -30,7 +31,8 @@ impl<T: Integer, I: Draw<T>, A: Allocator> Not for MultiwayIntersection<T, I, A>
 
     ghost can_not = { ⟦<MultiwayIntersection<T, I, A> as Draw<T>>⟧.can_draw };
 
-    ghost not_gives = { MakesComplement T.Integer.own ⟦<MultiwayIntersection<T, I, A> as Draw<T>>⟧
+    ghost not_gives = { MakesComplementUndrawn T.Integer.own
+        ⟦<MultiwayIntersection<T, I, A> as Draw<T>>⟧
         ⟦<NotIter<T, MultiwayIntersection<T, I, A>> as Draw<T>>⟧ };
 
     fn not(self) -> Self::Output {
@@ -43,7 +45,7 @@ impl<T: Integer, I: Draw<T>, A: Allocator> Not for MultiwaySymmetricDifference<T
 
     ghost can_not = { ⟦<MultiwaySymmetricDifference<T, I, A> as Draw<T>>⟧.can_draw };
 
-    ghost not_gives = { MakesComplement T.Integer.own
+    ghost not_gives = { MakesComplementUndrawn T.Integer.own
         ⟦<MultiwaySymmetricDifference<T, I, A> as Draw<T>>⟧
         ⟦<NotIter<T, MultiwaySymmetricDifference<T, I, A>> as Draw<T>>⟧ };
 
@@ -57,7 +59,8 @@ impl<T: Integer, I: Draw<T>, A: Allocator> Not for MultiwayAtLeast<T, I, A> {
 
     ghost can_not = { ⟦<MultiwayAtLeast<T, I, A> as Draw<T>>⟧.can_draw };
 
-    ghost not_gives = { MakesComplement T.Integer.own ⟦<MultiwayAtLeast<T, I, A> as Draw<T>>⟧
+    ghost not_gives = { MakesComplementUndrawn T.Integer.own
+        ⟦<MultiwayAtLeast<T, I, A> as Draw<T>>⟧
         ⟦<NotIter<T, MultiwayAtLeast<T, I, A>> as Draw<T>>⟧ };
 
     fn not(self) -> Self::Output {
@@ -70,7 +73,8 @@ impl<T: Integer, A: Allocator> Not for DynSortedDisjoint<T, A> {
 
     ghost can_not = { ⟦<DynSortedDisjoint<T, A> as Draw<T>>⟧.can_draw };
 
-    ghost not_gives = { MakesComplement T.Integer.own ⟦<DynSortedDisjoint<T, A> as Draw<T>>⟧
+    ghost not_gives = { MakesComplementUndrawn T.Integer.own
+        ⟦<DynSortedDisjoint<T, A> as Draw<T>>⟧
         ⟦<NotIter<T, DynSortedDisjoint<T, A>> as Draw<T>>⟧ };
 
     fn not(self) -> Self::Output {

@@ -1,10 +1,10 @@
 -- What callers of operations on many streams need: the results for known lists.
-use Rattle.std.proofs.Common.{◌≡◌, ℕ, ◌-◌, List, [], ◌∷◌, length, map, refl, subst}
+use Rattle.std.proofs.Common.{◌≡◌, ℕ, List, [], ◌∷◌, length, map, refl, subst}
 use Rattle.rsb_integer.specs.Runs.{Interval, members, AreRuns}
 use Rattle.rsb_integer.specs.Selection.{Selection}
 use Rattle.rsb_integer.proofs.lemmas.Runs.{runs-canonical, runs-from_canonical, runs-members}
 use Rattle.rsb_streams.specs.Stream.{◌⊆◌, just, Outcomes}
-use Rattle.rsb_streams.specs.StreamLaws.{settled_canonical_in}
+use Rattle.rsb_streams.specs.laws.Stream.{settled_canonical_in}
 use Rattle.rsb_streams.proofs.lemmas.calling.Results.{settled-same}
 use Rattle.rsb_many.specs.Many.{may_give_at, runs_by_all, OneOfEach}
 
@@ -16,7 +16,7 @@ pub settled_runs : (n : ℕ) (selected : Selection) (runs : List Interval)
 settled_runs n selected runs holds =
     let canonical = settled_canonical_in n runs
     (λ fails. holds (λ all. fails (runs-canonical n selected runs all))) in
-    runs-from_canonical n selected runs canonical.0 canonical.1 (λ rank below.
+    runs-from_canonical n selected runs canonical.apart canonical.within (λ rank below.
     settled-same (members runs rank) (selected rank)
     (λ fails. holds (λ all. fails (runs-members n selected runs all rank below))))
 

@@ -5,7 +5,7 @@ use Rattle.rsb_integer.proofs.lemmas.List.{true_or_false}
 use Rattle.rsb_integer.proofs.lemmas.Runs.{runs-along}
 use Rattle.rsb_streams.specs.OddPieces.{ArePieces}
 use Rattle.rsb_streams.specs.Stream.{◌⊆◌, joined_runs, Outcomes}
-use Rattle.rsb_streams.specs.StreamLaws.{settled_le}
+use Rattle.rsb_streams.specs.laws.Stream.{settled_le}
 use Rattle.rsb_streams.specs.Touching.{IsTouchingIn}
 use Rattle.rsb_many.specs.Many.{runs_by_all, OneOfEach, SomeOfEach}
 use Rattle.rsb_many.specs.MultiwaySweep.{EventOutcomes}

@@ -260,6 +260,48 @@ members-under n low runs rank touching below under =
     sym (odd-members n low 0 runs rank touching below)
     ∙ odd-before n low (events_of 0 runs) rank (edges-events n low 0 runs touching below) under
 
+-- With one more range, its start and its end count too.
+counts-more : (rank input : ℕ) (run : Interval) (runs : List Interval)
+    → (starts_by rank (events_of input (run ∷ runs))
+    ≡ start_by rank (Start run input) + starts_by rank (events_of input runs))
+    × (ends_by rank (events_of input (run ∷ runs))
+    ≡ end_by rank (End run.last input) + ends_by rank (events_of input runs))
+counts-more rank input run runs =
+    let first = Start run input in
+    let last = End run.last input in
+    let others = events_of input runs in
+    let one = sum_by-cons (start_by rank) first (last ∷ others) in
+    let two = sum_by-cons (start_by rank) last others in
+    let three = sum_by-cons (end_by rank) first (last ∷ others) in
+    let four = sum_by-cons (end_by rank) last others in
+    (omega arith, omega arith)
+
+-- Up to the end of the first range, the list covers a rank exactly if that range has started.
+members-within : (n : ℕ) (run : Interval) (runs : List Interval) (rank : ℕ)
+    → IsTouchingFrom (run.last + 1) runs → AllEndBelow n runs → rank < run.last + 1
+    → members (run ∷ runs) rank ≡ nat_le run.first rank
+members-within n run runs rank touching below within =
+    let outside = members-under n (run.last + 1) runs rank touching below within in
+    let under : nat_le rank run.last ≡ true = grind (arith, nat_tests) in
+    members-cons run runs rank ∙ (rw (outside, under) (by_both (nat_le run.first rank)))
+  where
+    -- “And true” and “or false” change nothing.
+    by_both : (test : Bool) → ((test && true) || false) ≡ test
+    by_both true = refl
+    by_both false = refl
+
+-- Past it, only the other ranges matter.
+members-past : (run : Interval) (runs : List Interval) (rank : ℕ) → run.last + 1 ≤ rank
+    → members (run ∷ runs) rank ≡ members runs rank
+members-past run runs rank past =
+    let under : nat_le rank run.last ≡ false = grind (arith, nat_tests) in
+    members-cons run runs rank ∙ (rw under (by_neither (nat_le run.first rank)))
+  where
+    -- “And false” is false.
+    by_neither : (test : Bool) → ((test && false) || members runs rank) ≡ members runs rank
+    by_neither true = refl
+    by_neither false = refl
+
 -- At a rank, one more range has started than ended if the list covers the rank. Otherwise the
 -- numbers are equal.
 deep-members : (n low input : ℕ) (runs : List Interval) (rank : ℕ) → IsTouchingFrom low runs
@@ -269,47 +311,33 @@ deep-members : (n low input : ℕ) (runs : List Interval) (rank : ℕ) → IsTou
 deep-members n low input [] rank touching below = refl
 deep-members n low input (run ∷ runs) rank touching below =
     let later = All-tail (λ (each : Interval). each.last < n) run runs below in
-    let ordered = touching.1 in
-    let first = Start run input in
-    let last = End run.last input in
-    let others = events_of input runs in
-    let one = sum_by-cons (start_by rank) first (last ∷ others) in
-    let two = sum_by-cons (start_by rank) last others in
-    let three = sum_by-cons (end_by rank) first (last ∷ others) in
-    let four = sum_by-cons (end_by rank) last others in
+    let ordered = touching.in_order in
+    let counts = counts-more rank input run runs in
+    let starts = counts.0 in
+    let ends = counts.1 in
     elim (cases_lt rank (run.last + 1)) [
       | inl within ↦
-          let none = none-before n (run.last + 1) others rank
-          (edges-events n (run.last + 1) input runs touching.2 later) within in
-          let starts = none.0 in
-          let ends = none.1 in
-          let outside = members-under n (run.last + 1) runs rank touching.2 later within in
+          let none = none-before n (run.last + 1) (events_of input runs) rank
+          (edges-events n (run.last + 1) input runs touching.rest later) within in
+          let no_starts = none.0 in
+          let no_ends = none.1 in
           let over : nat_le (run.last + 1) rank ≡ false = grind (arith, nat_tests) in
-          let under : nat_le rank run.last ≡ true = grind (arith, nat_tests) in
-          let zero_more : end_by rank last ≡ 0 = rw over refl in
-          let has : members (run ∷ runs) rank ≡ nat_le run.first rank =
-          members-cons run runs rank ∙ (rw (outside, under) (by_both (nat_le run.first rank))) in
-          let same : ◌≡◌ {A = ℕ} (cond (members (run ∷ runs) rank) 1 0) (start_by rank first) =
-          ap (λ test. cond test 1 0) has in
+          let ongoing : end_by rank (End run.last input) ≡ 0 = rw over refl in
+          let same : ◌≡◌ {A = ℕ} (cond (members (run ∷ runs) rank) 1 0)
+          (start_by rank (Start run input)) = ap (λ test. cond test 1 0)
+          (members-within n run runs rank touching.rest later within) in
           omega arith
       | inr past ↦
-          let rest = deep-members n (run.last + 1) input runs rank touching.2 later in
+          let rest = deep-members n (run.last + 1) input runs rank touching.rest later in
           let over : nat_le (run.last + 1) rank ≡ true = grind (arith, nat_tests) in
-          let under : nat_le rank run.last ≡ false = grind (arith, nat_tests) in
           let from : nat_le run.first rank ≡ true = grind (arith, nat_tests) in
-          let one_more : end_by rank last ≡ 1 = rw over refl in
-          let also : start_by rank first ≡ 1 = rw from refl in
-          let has : members (run ∷ runs) rank ≡ members runs rank =
-          members-cons run runs rank ∙ (rw (from, under) refl) in
+          let ended : end_by rank (End run.last input) ≡ 1 = rw over refl in
+          let started : start_by rank (Start run input) ≡ 1 = rw from refl in
           let same : ◌≡◌ {A = ℕ} (cond (members (run ∷ runs) rank) 1 0)
-          (cond (members runs rank) 1 0) = ap (λ test. cond test 1 0) has in
+          (cond (members runs rank) 1 0) = ap (λ test. cond test 1 0)
+          (members-past run runs rank past) in
           omega arith
     ]
-  where
-    -- “And true” and “or false” change nothing.
-    by_both : (test : Bool) → ((test && true) || false) ≡ test
-    by_both true = refl
-    by_both false = refl
 
 -- At a rank, as many more ranges of several lists have started than ended as there are lists that
 -- cover it.
@@ -321,7 +349,7 @@ deep-lists n input (runs ∷ lists) rank all =
     let own = All-head (IsTouchingIn n) runs lists all in
     let mine = events_of input runs in
     let others = events_from (input + 1) lists in
-    let first = deep-members n 0 input runs rank own.0 own.1 in
+    let first = deep-members n 0 input runs rank own.spaced own.within in
     let rest = deep-lists n (input + 1) lists rank (All-tail (IsTouchingIn n) runs lists all) in
     let starts = sum_by-append (start_by rank) mine others in
     let ends = sum_by-append (end_by rank) mine others in

@@ -4,7 +4,7 @@ use Rattle.std.proofs.lemmas.List.Sorted.{sum_by-IsPermutation}
 use Rattle.std.proofs.lemmas.List.Sums.{sum_by-append, sum_by-cons}
 use Rattle.rsb_integer.specs.Runs.{Interval}
 use Rattle.rsb_streams.specs.Stream.{Outcomes}
-use Rattle.rsb_streams.specs.StreamLaws.{settled_le}
+use Rattle.rsb_streams.specs.laws.Stream.{settled_le}
 use Rattle.rsb_many.specs.Many.{OneOfEach, SomeOfEach}
 use Rattle.rsb_many.specs.Rule.{end_count, start_count, IsDepth}
 use Rattle.rsb_many.specs.Sweep.{all_events, end_then, events_from, events_of, events_of_rest, rest_events_from, rests_by, AreEvents, AreEventsOf, End, Event, Rest, Start}

@@ -12,7 +12,7 @@ use Rattle.rsb_integer.proofs.lemmas.Members.{members-cons, members-head}
 use Rattle.rsb_streams.specs.OddPieces.{ArePieces}
 use Rattle.rsb_streams.specs.PutBack.{held_list}
 use Rattle.rsb_streams.specs.Stream.{HasSortedStartsFrom}
-use Rattle.rsb_streams.specs.StreamLaws.{settled_le, settled_lt}
+use Rattle.rsb_streams.specs.laws.Stream.{settled_le, settled_lt}
 use Rattle.rsb_streams.proofs.lemmas.odd.Ranks.{pieces-along}
 use Rattle.rsb_many.specs.Sweep.{End, Event, Start}
 use Rattle.rsb_many.specs.SweepPieces.{edge_in, edge_of, edges_of, low_of, odd_past, piece_up_to, HasEdgesFrom, IsEventIn, PassesEdge}
@@ -71,19 +71,20 @@ pieces-from : (n low : ℕ) (events : List Event) (pieces : List Interval)
     → HasSortedStartsFrom n low pieces
 pieces-from n low events [] edges all = tt
 pieces-from n low events (piece ∷ pieces) edges all =
-    let ordered = all.sorted.1 in
-    let below = all.sorted.2 in
-    let inside : piece.first < n = omega (arith, ordered, below) in (
-      elim (cases_lt piece.first low) [
+    let ordered = all.sorted.in_order in
+    let below = all.sorted.in_type in
+    let inside : piece.first < n = omega (arith, ordered, below) in
+    record {
+      starts = elim (cases_lt piece.first low) [
         | inl under ↦ absurd (not_both (members (piece ∷ pieces) piece.first)
             (members-head piece pieces piece.first (omega arith) ordered)
             (all.same piece.first inside ∙ odd-before n low events piece.first edges under))
         | inr from ↦ from
-      ],
-      ordered,
-      below,
-      all.sorted.3,
-    )
+      ];
+      in_order = ordered;
+      in_type = below;
+      rest = all.sorted.rest;
+    }
 
 -- If no piece has begun, one begins at the edge, unless the edge lies past the end of the type.
 edge-begins : (n edge : ℕ) (edges : List ℕ) (rank : ℕ) → rank < n
@@ -142,13 +143,13 @@ pieces-end n start event events pieces edges all =
           let less : start < edge = grind (arith, nat_tests) in
           let piece : Interval = record { first = start; last = edge - 1 } in
           rw some (record {
-            sorted = (
-              omega arith,
-              omega (arith, less),
-              omega (arith, less, most),
-              pieces-from n start events pieces
-                  (edges-lower n edge start events starts edges.2) all,
-            );
+            sorted = record {
+              starts = omega arith;
+              in_order = omega (arith, less);
+              in_type = omega (arith, less, most);
+              rest = pieces-from n start events pieces
+                  (edges-lower n edge start events starts edges.2) all;
+            };
             same = λ rank below.
                 members-cons piece pieces rank
                 ∙ ap (λ test. covers piece rank || test) (all.same rank below)

@@ -51,13 +51,13 @@ events-from_low : (input low : ℕ) (runs : List Interval) → IsTouchingFrom lo
     → All (λ event. low ≤ (key_of_event event).at) (events_of input runs)
 events-from_low input low [] touching = All-nil (λ event. low ≤ (key_of_event event).at)
 events-from_low input low (run ∷ runs) touching =
-    let starts = touching.0 in
-    let ordered = touching.1 in
+    let starts = touching.starts in
+    let ordered = touching.in_order in
     let past : Event → Type 0 = λ event. low ≤ (key_of_event event).at in
     All-cons past (Start run input) (End run.last input ∷ events_of input runs) starts
     (All-cons past (End run.last input) (events_of input runs) (omega arith)
     (All-weaker (λ event. run.last + 1 ≤ (key_of_event event).at) past (λ event later. omega arith)
-    (events_of input runs) (events-from_low input (run.last + 1) runs touching.2)))
+    (events_of input runs) (events-from_low input (run.last + 1) runs touching.rest)))
 
 -- Each event of an input has the number of the input.
 events-input : (input : ℕ) (runs : List Interval)
@@ -82,10 +82,10 @@ events-ascending : (input low : ℕ) (runs : List Interval) → IsTouchingFrom l
 events-ascending input low [] touching = AllPairs-nil Precedes
 events-ascending input low (run ∷ runs) touching =
     ascending-cons Precedes precedes-through (Start run input) (End run.last input)
-    (events_of input runs) (start-precedes_end run input touching.1)
+    (events_of input runs) (start-precedes_end run input touching.in_order)
     (AllPairs-cons Precedes (End run.last input) (events_of input runs)
-    (end-first input run.last runs touching.2)
-    (events-ascending input (run.last + 1) runs touching.2))
+    (end-first input run.last runs touching.rest)
+    (events-ascending input (run.last + 1) runs touching.rest))
 
 -- ---- what is left of inputs
 
@@ -176,5 +176,5 @@ pub events-some : (n : ℕ) (inputs : List (List Interval)) → All (IsTouchingI
 events-some n inputs touching =
     let some = rests-some (map rest_unstarted inputs)
     (All-map IsTouchingRest rest_unstarted inputs
-    (All-weaker (IsTouchingIn n) IsTouching (λ runs within. within.0) inputs touching)) in
+    (All-weaker (IsTouchingIn n) IsTouching (λ runs within. within.spaced) inputs touching)) in
     (some.0, events-from_rests inputs some.0 some.1)

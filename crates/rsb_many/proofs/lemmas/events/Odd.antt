@@ -70,15 +70,15 @@ pub edges-events : (n low input : ℕ) (runs : List Interval) → IsTouchingFrom
     → AllEndBelow n runs → HasEdgesFrom n low (events_of input runs)
 edges-events n low input [] touching below = tt
 edges-events n low input (run ∷ runs) touching below =
-    let starts = touching.0 in
-    let ordered = touching.1 in
+    let starts = touching.starts in
+    let ordered = touching.in_order in
     let inside = All-head (λ (each : Interval). each.last < n) run runs below in (
       starts,
       (ordered, inside),
       (
         omega (arith, ordered),
         inside,
-        edges-events n (run.last + 1) input runs touching.2
+        edges-events n (run.last + 1) input runs touching.rest
             (All-tail (λ (each : Interval). each.last < n) run runs below),
       ),
     )
@@ -92,15 +92,15 @@ odd-members n low input (run ∷ runs) rank touching below =
     let edge = run.last + 1 in
     let later = All-tail (λ (each : Interval). each.last < n) run runs below in
     let others = odd_past (map edge_of (events_of input runs)) rank in
-    let ordered = touching.1 in
+    let ordered = touching.in_order in
     let same : record { first = run.first; last = edge - 1 } ≡ run =
     λ i. record { first = run.first; last = minus-one run.last i } in
     sym (between-edges run.first edge rank others (omega (arith, ordered))
     (λ under. odd-before n edge (events_of input runs) rank
-    (edges-events n edge input runs touching.2 later) under))
+    (edges-events n edge input runs touching.rest later) under))
     ∙ ap (λ each. covers each rank || others) same
     ∙ ap (λ test. covers run rank || test)
-    (odd-members n edge input runs rank touching.2 later)
+    (odd-members n edge input runs rank touching.rest later)
     ∙ sym (members-cons run runs rank)
   where
     -- Adding and subtracting 1 changes nothing.
@@ -118,7 +118,7 @@ odd-lists n input (runs ∷ lists) rank all =
     ap (λ edges. odd_past edges rank) (map-append edge_of mine others)
     ∙ odd-append (map edge_of mine) (map edge_of others) rank
     ∙ ap (λ test. exclusive_or test (odd_past (map edge_of others) rank))
-    (odd-members n 0 input runs rank own.0 own.1)
+    (odd-members n 0 input runs rank own.spaced own.within)
     ∙ ap (λ test. exclusive_or (members runs rank) test)
     (odd-lists n (input + 1) lists rank (All-tail (IsTouchingIn n) runs lists all))
 
@@ -138,9 +138,9 @@ events-in n low input [] touching below = All-nil (IsEventIn n)
 events-in n low input (run ∷ runs) touching below =
     let inside = All-head (λ (each : Interval). each.last < n) run runs below in
     All-cons (IsEventIn n) (Start run input) (End run.last input ∷ events_of input runs)
-    (touching.1, inside)
+    (touching.in_order, inside)
     (All-cons (IsEventIn n) (End run.last input) (events_of input runs) inside
-    (events-in n (run.last + 1) input runs touching.2
+    (events-in n (run.last + 1) input runs touching.rest
     (All-tail (λ (each : Interval). each.last < n) run runs below)))
 
 -- So do the events of several lists.
@@ -150,7 +150,7 @@ lists-in n input [] all = All-nil (IsEventIn n)
 lists-in n input (runs ∷ lists) all =
     let own = All-head (IsTouchingIn n) runs lists all in
     All-append (IsEventIn n) (events_of input runs) (events_from (input + 1) lists)
-    (events-in n 0 input runs own.0 own.1)
+    (events-in n 0 input runs own.spaced own.within)
     (lists-in n (input + 1) lists (All-tail (IsTouchingIn n) runs lists all))
 
 -- If an event comes before another, its edge is not greater.

@@ -1,7 +1,5 @@
 -- One event of a sweep over any number of streams.
-use Rattle.std.proofs.Common.{◌≡◌, ℕ, ◌+◌, ◌*◌, ◌<◌, ◌≤◌, true, false, cond, List, [], ◌∷◌, ◌++◌, length, refl, sym, ap, subst, ◌∙◌, arith, All, sum_by, Some, None, IsFalse}
-use Rattle.std.proofs.lemmas.List.Sorted.{sum_by-IsPermutation}
-use Rattle.std.proofs.lemmas.List.Sums.{sum_by-cons}
+use Rattle.std.proofs.Common.{◌≡◌, ℕ, ◌+◌, ◌*◌, ◌<◌, ◌≤◌, true, false, cond, List, [], ◌∷◌, ◌++◌, length, refl, sym, ap, subst, ◌∙◌, arith, Some, None}
 use Rattle.std.specs.Iterator.{size, IsFinite, MakesProgress}
 use Rattle.std.specs.declared.ops.RangeInclusive.{RangeInclusive}
 use Rattle.rsb_integer.specs.Rank.{interval_of}
@@ -13,25 +11,26 @@ use Rattle.rsb_streams.specs.Touching.{IsTouching}
 use Rattle.rsb_streams.specs.declared.draw.Draw.{Ghosts as Stream}
 use Rattle.rsb_streams.proofs.lemmas.lookahead.EachCall.{uses-then}
 use Rattle.rsb_streams.proofs.lemmas.sources.Known.{IsLawful}
-use Rattle.rsb_many.specs.Drawn.{inputs_of, is_at, HasNoHead, PutsBack, Refills, TakesHead}
-use Rattle.rsb_many.specs.Heads.{binary_digits, closing_bound, key_of, run_of_head, head_at_end}
-use Rattle.rsb_many.specs.Inputs.{has_ended, held_at, input_at}
+use Rattle.rsb_many.specs.Drawn.{has_begun, inputs_of, is_at, HasNoHead, PutsBack, Refills, TakesHead}
+use Rattle.rsb_many.specs.Heads.{binary_digits, closing_bound, head_of, key_of, run_of_head}
+use Rattle.rsb_many.specs.Inputs.{input_at}
 use Rattle.rsb_many.specs.KMerge.{comparison_bound}
-use Rattle.rsb_many.specs.Keys.{comes_before}
-use Rattle.rsb_many.specs.Many.{gives_of}
-use Rattle.rsb_many.specs.MultiwaySweep.{events_left, events_of_head, has_begun, stream_count, sweep_inputs, sweep_may_give, SweepReady, Sweeps}
+use Rattle.rsb_many.specs.Many.{gives_of, may_give_at}
+use Rattle.rsb_many.specs.MultiwaySweep.{events_left, stream_count, sweep_inputs, sweep_may_give, SweepReady, Sweeps}
 use Rattle.rsb_many.specs.Sweep.{events_of_rest, key_of_event, rest_by, End, Event, Start}
 use Rattle.rsb_many.specs.declared.drawn.Drawn.{Drawn}
 use Rattle.rsb_many.specs.declared.heads.Head.{Head}
 use Rattle.rsb_many.specs.declared.multiway_sweep.MultiwaySweep.{MultiwaySweep}
+use Rattle.rsb_many.specs.declared.sweep_event.SweepEvent.{SweepEvent}
 use Rattle.rsb_many.specs.declared.sweep_event.SweepEvent.TheVariants as events
-use Rattle.rsb_many.proofs.lemmas.inputs.BegunByHeads.{events-came, has_begun-came, has_begun-nothing, has_begun-only, has_begun-other, has_begun-permutation, held-not_before, key-started, key-unstarted}
-use Rattle.rsb_many.proofs.lemmas.inputs.HeadLeaves.{back-due, back-held, back-left, back-long, back-many, back-ready, back-uses, few-compared, none-ends, none-long, none-might, none-nothing, none-ready, taken-dues, taken-gives, taken-held, taken-left, taken-less, taken-long, taken-none, taken-others, taken-ready, taken-spares}
-use Rattle.rsb_many.proofs.lemmas.inputs.OneInput.{gives_of-uses}
+use Rattle.rsb_many.proofs.lemmas.inputs.BegunByHeads.{first-not_before, key-started, key-unstarted}
+use Rattle.rsb_many.proofs.lemmas.inputs.HeadLeaves.{back-due, back-fewer, back-long, back-many, back-ready, back-uses, few-compared, none-ends, none-long, none-might, none-nothing, none-ready, taken-ready}
+use Rattle.rsb_many.proofs.lemmas.inputs.Leaves.{taken-due, taken-fewer, taken-gives, taken-less, taken-long, taken-spares}
+use Rattle.rsb_many.proofs.lemmas.inputs.OneInput.{gives_of-uses, held-short, held_of}
 use Rattle.rsb_many.proofs.lemmas.inputs.Places.{at-place}
 use Rattle.rsb_many.proofs.lemmas.inputs.Touching.{touching-after}
-use Rattle.rsb_many.proofs.lemmas.events.Built.{sweep-ready}
-use Rattle.rsb_many.proofs.lemmas.inputs.Rests.{events-end_only, events-may_end, events-told, not_before-nothing}
+use Rattle.rsb_many.proofs.lemmas.events.Built.{begun_of, sweep-ready}
+use Rattle.rsb_many.proofs.lemmas.inputs.Rests.{events-end_only, events-may_end, events-told}
 use Rattle.rsb_many.proofs.lemmas.events.Steps.{IsNotBefore}
 
 module _ {T N I A : Type 0} (integer : Elements T N) (stream : Stream I T N)
@@ -55,10 +54,6 @@ module _ {T N I A : Type 0} (integer : Elements T N) (stream : Stream I T N)
       (input_at integer stream (inputs_of m) place) (sweep_inputs integer stream t place) [] used
       (filled.uses place) uses
 
-  -- No range is due any more.
-  none-due : (place : ℕ) → is_at m.used place ≡ false
-  none-due place = rw filled.none refl
-
   -- The call made few comparisons.
   few-made : (made : ℕ)
       → made ≤ m.heads.comparisons + closing_bound m.heads
@@ -75,46 +70,29 @@ module _ {T N I A : Type 0} (integer : Elements T N) (stream : Stream I T N)
     here-less = let less = taken-less filled takes in omega (arith, less, filled.count)
 
     -- Its input had begun exactly if the start of its range was reported.
-    begun-here : has_begun s.inputs.heads.heads head.input ≡ head.started
-    begun-here = sym (has_begun-came s.inputs.heads.heads m.heads.heads head.input filled.came)
-        ∙ sym (has_begun-permutation m.heads.heads (head ∷ u.heads.heads) head.input
-        takes.taken.kept)
-        ∙ has_begun-only rank head u.heads.heads (taken-none filled takes)
+    begun-here : begun_of s head.input ≡ head.started
+    begun-here = sym (filled.begun head.input) ∙ ap has_begun takes.taken.was
 
     -- The same other inputs have begun as before.
     begun-there : (place : ℕ) → ¬ (place ≡ head.input)
-        → has_begun u.heads.heads place ≡ has_begun s.inputs.heads.heads place
-    begun-there place differs = sym (has_begun-other head u.heads.heads place differs)
-        ∙ has_begun-permutation m.heads.heads (head ∷ u.heads.heads) place takes.taken.kept
-        ∙ has_begun-came s.inputs.heads.heads m.heads.heads place filled.came
+        → has_begun (head_of u.heads.heads place) ≡ begun_of s place
+    begun-there place differs =
+        ap has_begun (takes.taken.leaves.others place differs) ∙ filled.begun place
 
-    -- The events of the heads are those of this one and of the heads that are left.
-    events-taken : sum_by events_of_head m.heads.heads
-        ≡ events_of_head head + sum_by events_of_head u.heads.heads
-    events-taken = sym (sum_by-IsPermutation events_of_head m.heads.heads (head ∷ u.heads.heads)
-        takes.taken.kept) ∙ sum_by-cons events_of_head head u.heads.heads
-
-    -- If the event has the head's key, no first event of another input comes before it. The cases
-    -- are what is held of that input.
+    -- If the event has the head's key, and the heads of the other inputs were not changed since, no
+    -- event of another input comes before it.
     least-by : (event : Event) → key_of rank head ≡ key_of_event event → (place : ℕ)
-        → (sweep_inputs integer stream t place).held ≡ held_at rank u.heads.heads place
+        → ¬ (place ≡ head.input)
+        → head_of t.inputs.heads.heads place ≡ head_of u.heads.heads place
         → is_at t.inputs.used place ≡ false
-        → length (held_at rank u.heads.heads place) ≤ 1
-        → (held : List Interval) → held_at rank u.heads.heads place ≡ held
         → (runs : List Interval) → gives_of (sweep_inputs integer stream t place) runs
-        → IsNotBefore (events_of_rest place (rest_by (has_begun u.heads.heads place) runs)) event
-    least-by event is place same due short [] none runs gives =
-        let over : has_ended integer stream (inputs_of t.inputs) place ≡ true =
-        rw (same, none, due) refl in
-        let rest : gives.0 ≡ [] = rw over at gives.1 in
-        let nothing : runs ≡ [] = gives.2 ∙ (ap (λ each. each ++ gives.0) (same ∙ none) ∙ rest) in
-        rw nothing (not_before-nothing (has_begun u.heads.heads place) place event)
-    least-by event is place same due short (one ∷ held) some runs gives =
-        let all = subst (λ key. All (λ each. IsFalse (comes_before (key_of rank each) key))
-        u.heads.heads) is takes.taken.least in
-        let long = ap (λ (each : List Interval). length each) some in
-        rw (gives.2, same) (held-not_before rank event u.heads.heads place gives.0 all short
-        (omega (arith, long)))
+        → IsNotBefore (events_of_rest place (rest_by (begun_of s place) runs)) event
+    least-by event is place differs same due runs gives =
+        subst (λ begun. IsNotBefore (events_of_rest place (rest_by begun runs)) event)
+        (ap has_begun same ∙ begun-there place differs)
+        (first-not_before rank event (head_of t.inputs.heads.heads place) (is_at t.inputs.used place)
+        place (may_give_at stream.may_give t.inputs.streams.items place) due
+        (rw (same, sym is) (takes.taken.least place)) runs gives)
 
   -- ---- the least head leaves, and the start of its range was reported
   module _ (head : Head T) (takes : TakesHead integer stream m head t.inputs)
@@ -148,26 +126,15 @@ module _ {T N I A : Type 0} (integer : Elements T N) (stream : Stream I T N)
     end-count = taken-long filled takes ∙ filled.count
 
     -- The input had begun before the call, and has not after it.
-    end-begun : (has_begun s.inputs.heads.heads head.input ≡ true)
-        × (has_begun t.inputs.heads.heads head.input ≡ false)
-    end-begun = (
-      begun-here takes ∙ ends,
-      has_begun-nothing rank t.inputs.heads.heads head.input
-          (taken-none filled takes),
-    )
+    end-begun : (begun_of s head.input ≡ true) × (begun_of t head.input ≡ false)
+    end-begun = (begun-here takes ∙ ends, ap has_begun takes.taken.leaves.here)
 
     -- No other input has an event that comes before the end.
     end-least : (place : ℕ) → ¬ (place ≡ head.input) → (runs : List Interval)
         → gives_of (sweep_inputs integer stream t place) runs
-        → IsNotBefore (events_of_rest place
-        (rest_by (has_begun s.inputs.heads.heads place) runs)) ending
-    end-least place differs runs gives =
-        let due = taken-dues filled takes place differs ∙ none-due place in
-        subst (λ begun. IsNotBefore (events_of_rest place (rest_by begun runs)) ending)
-        (begun-there takes place differs)
-        (least-by takes ending (key-started rank head head.input ends refl) place
-        refl due (omega (arith, end-ready.drawn.inputs.one place))
-        (held_at rank t.inputs.heads.heads place) refl runs gives)
+        → IsNotBefore (events_of_rest place (rest_by (begun_of s place) runs)) ending
+    end-least place differs = least-by takes ending (key-started rank head head.input ends refl) place
+        differs refl (taken-due filled takes place differs)
 
     -- The end, followed by what the sweep gives after the call, is what it might give before.
     end-told : (told : List Event) → sweep_may_give integer stream t told
@@ -175,7 +142,7 @@ module _ {T N I A : Type 0} (integer : Elements T N) (stream : Stream I T N)
     end-told told may = events-told (stream_count s)
         (λ place. gives_of (sweep_inputs integer stream s place))
         (λ place. gives_of (sweep_inputs integer stream t place))
-        (has_begun s.inputs.heads.heads) (has_begun t.inputs.heads.heads) head.input ending
+        (begun_of s) (begun_of t) head.input ending
         (run_of_head rank head ∷ []) (here-less takes)
         (gives_of-uses end-uses)
         (λ place less differs. gives_of-uses (end-spares place differs))
@@ -189,12 +156,10 @@ module _ {T N I A : Type 0} (integer : Elements T N) (stream : Stream I T N)
     end-less : IsFinite (events_left integer stream s)
         → size (events_left integer stream t) < size (events_left integer stream s)
     end-less finite =
-        let refilled = filled.left finite in
-        let came = events-came s.inputs.heads.heads m.heads.heads filled.came in
-        let taken = events-taken takes in
+        let refilled = filled.left 2 finite in
+        let taken = taken-fewer filled takes 2 refilled.0 in
         let one = ap (λ each. cond {A = ℕ} each 1 2) ends in
-        let same = ap (λ each. size each) (taken-left filled takes) in
-        omega (arith, refilled.1, came.0, came.1, taken, one, same)
+        omega (arith, refilled.1, taken.1, one)
 
     -- This is a call of the sweep that returns the end, as `Sweeps` states.
     pub end-known : t.inputs.heads.comparisons ≤ m.heads.comparisons + closing_bound m.heads
@@ -208,11 +173,11 @@ module _ {T N I A : Type 0} (integer : Elements T N) (stream : Stream I T N)
         ends = refl;
         here = record {
           uses = end-uses;
-          room = taken-none filled takes;
+          room = ap (held_of rank) takes.taken.leaves.here;
         };
         elsewhere = end-spares;
       };
-      holds = λ place. omega (arith, end-ready.drawn.inputs.one place);
+      holds = λ place. held-short rank (head_of t.inputs.heads.heads place);
       count = end-count;
       compared = few-made t.inputs.heads.comparisons (omega (arith, compared));
       counted = omega (arith, filled.counted, counted);
@@ -249,52 +214,31 @@ module _ {T N I A : Type 0} (integer : Elements T N) (stream : Stream I T N)
     start-count = back-long filled takes back ∙ filled.count
 
     -- The input has begun now.
-    start-begun : has_begun t.inputs.heads.heads head.input ≡ true
-    start-begun = has_begun-permutation (head_at_end head ∷ u.heads.heads) t.inputs.heads.heads
-        head.input back.kept
-        ∙ has_begun-only rank (head_at_end head) u.heads.heads (taken-none filled takes)
+    start-begun : begun_of t head.input ≡ true
+    start-begun = ap has_begun back.heads.here
 
     -- The same other inputs have begun as before.
-    start-others : (place : ℕ) → ¬ (place ≡ head.input)
-        → has_begun t.inputs.heads.heads place ≡ has_begun s.inputs.heads.heads place
+    start-others : (place : ℕ) → ¬ (place ≡ head.input) → begun_of t place ≡ begun_of s place
     start-others place differs =
-        has_begun-permutation (head_at_end head ∷ u.heads.heads) t.inputs.heads.heads place
-        back.kept
-        ∙ has_begun-other (head_at_end head) u.heads.heads place differs
-        ∙ begun-there takes place differs
+        ap has_begun (back.heads.others place differs) ∙ begun-there takes place differs
 
     -- Only the range of the head is held of its input.
     start-held : (sweep_inputs integer stream t head.input).held ≡ run_of_head rank head ∷ []
-    start-held = back-held filled takes back head.input ∙ taken-held filled takes
-
-    -- What is held of the other inputs is unchanged.
-    start-stays : (place : ℕ) → ¬ (place ≡ head.input)
-        → (sweep_inputs integer stream t place).held ≡ held_at rank u.heads.heads place
-    start-stays place differs =
-        back-held filled takes back place
-        ∙ sym (taken-others filled takes place differs)
+    start-held = ap (held_of rank) back.heads.here
 
     -- No other input has an event that comes before the start.
     start-least : (place : ℕ) → ¬ (place ≡ head.input) → (runs : List Interval)
         → gives_of (sweep_inputs integer stream t place) runs
-        → IsNotBefore (events_of_rest place
-        (rest_by (has_begun s.inputs.heads.heads place) runs)) starting
-    start-least place differs runs gives =
-        let short = start-ready.drawn.inputs.one place in
-        let same = ap (λ (each : List Interval). length each) (start-stays place differs) in
-        subst (λ begun. IsNotBefore (events_of_rest place (rest_by begun runs)) starting)
-        (begun-there takes place differs)
-        (least-by takes starting (key-unstarted rank head head.input starts refl) place
-        (start-stays place differs)
-        (back-due filled takes back place)
-        (omega (arith, short, same)) (held_at rank u.heads.heads place) refl runs gives)
+        → IsNotBefore (events_of_rest place (rest_by (begun_of s place) runs)) starting
+    start-least place differs = least-by takes starting
+        (key-unstarted rank head head.input starts refl) place differs
+        (back.heads.others place differs) (back-due filled takes back place)
 
     -- The first event of the input is the start, whatever the input gives.
     start-first : (runs : List Interval)
         → gives_of (sweep_inputs integer stream t head.input) runs
-        → events_of_rest head.input (rest_by (has_begun s.inputs.heads.heads head.input) runs)
-        ≡ starting ∷ events_of_rest head.input
-        (rest_by (has_begun t.inputs.heads.heads head.input) runs)
+        → events_of_rest head.input (rest_by (begun_of s head.input) runs)
+        ≡ starting ∷ events_of_rest head.input (rest_by (begun_of t head.input) runs)
     start-first runs gives =
         rw (gives.2, start-held, begun-here takes ∙ starts, start-begun) refl
 
@@ -304,7 +248,7 @@ module _ {T N I A : Type 0} (integer : Elements T N) (stream : Stream I T N)
     start-told told may = events-told (stream_count s)
         (λ place. gives_of (sweep_inputs integer stream s place))
         (λ place. gives_of (sweep_inputs integer stream t place))
-        (has_begun s.inputs.heads.heads) (has_begun t.inputs.heads.heads) head.input starting []
+        (begun_of s) (begun_of t) head.input starting []
         (here-less takes)
         (gives_of-uses (start-uses head.input))
         (λ place less differs. gives_of-uses (start-uses place))
@@ -316,15 +260,9 @@ module _ {T N I A : Type 0} (integer : Elements T N) (stream : Stream I T N)
     start-less : IsFinite (events_left integer stream s)
         → size (events_left integer stream t) < size (events_left integer stream s)
     start-less finite =
-        let refilled = filled.left finite in
-        let came = events-came s.inputs.heads.heads m.heads.heads filled.came in
-        let taken = events-taken takes in
-        let two = ap (λ each. cond {A = ℕ} each 1 2) starts in
-        let again = sum_by-IsPermutation events_of_head (head_at_end head ∷ u.heads.heads)
-        t.inputs.heads.heads back.kept ∙ sum_by-cons events_of_head (head_at_end head) u.heads.heads
-        in
-        let same = ap (λ each. size each) (back-left filled takes back) in
-        omega (arith, refilled.1, came.0, came.1, taken, two, again, same)
+        let refilled = filled.left 2 finite in
+        let back = back-fewer filled takes back starts refilled.0 in
+        omega (arith, refilled.1, back.1)
 
     -- This is a call of the sweep that returns the start, as `Sweeps` states.
     pub start-known : (range : RangeInclusive T) → interval_of rank range ≡ run_of_head rank head
@@ -339,7 +277,7 @@ module _ {T N I A : Type 0} (integer : Elements T N) (stream : Stream I T N)
           (Start each head.input ∷ told)) (sym is) (start-told told may);
       rests = tt;
       asks = record { held = start-held ∙ ap (λ each. each ∷ []) (sym is); uses = start-uses };
-      holds = λ place. omega (arith, start-ready.drawn.inputs.one place);
+      holds = λ place. held-short rank (head_of t.inputs.heads.heads place);
       count = start-count;
       compared =
           let many = ap (λ count. binary_digits count) (back-many filled takes back) in
@@ -371,18 +309,27 @@ module _ {T N I A : Type 0} (integer : Elements T N) (stream : Stream I T N)
     none-known compared counted = record {
       answers = events-may_end (stream_count s)
           (λ place. gives_of (sweep_inputs integer stream s place))
-          (has_begun s.inputs.heads.heads)
+          (begun_of s)
           (λ place less. none-might filled empty place);
       rests = (
         none-again,
         events-end_only (stream_count t)
             (λ place. gives_of (sweep_inputs integer stream t place))
-            (has_begun t.inputs.heads.heads)
+            (begun_of t)
             (λ place less. none-nothing filled empty place),
       );
       asks = none-ends filled empty;
-      holds = λ place. omega (arith, none-again.drawn.inputs.one place);
+      holds = λ place. held-short rank (head_of t.inputs.heads.heads place);
       count = none-long filled empty ∙ filled.count;
       compared = few-made t.inputs.heads.comparisons (omega (arith, compared));
       counted = omega (arith, filled.counted, counted);
+    }
+
+    -- The call makes progress.
+    pub none-goes : MakesProgress {A = SweepEvent T} (SweepReady {A = A} integer stream)
+        (events_left integer stream) s None t
+    none-goes = record {
+      on = λ finite. tt;
+      keeps = tt;
+      rests = λ finite. none-again.ends;
     }

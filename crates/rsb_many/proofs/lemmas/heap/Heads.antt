@@ -5,7 +5,7 @@ use Rattle.std.proofs.lemmas.List.Elements.{All-from_get_or, All-get_or, All-tai
 use Rattle.std.proofs.lemmas.List.Sorted.{All-permutation, IsPermutation-refl, IsPermutation-swap, IsPermutation-sym, IsPermutation-to_front, IsPermutation-trans}
 use Rattle.std.specs.List.{swap, swap_remove, SwappedAt}
 use Rattle.std.specs.Prelude.{◌≢◌, IsFalse, IsTrue}
-use Rattle.rsb_many.specs.Heads.{key_of, IsLeastOf}
+use Rattle.rsb_many.specs.Heads.{key_of}
 use Rattle.rsb_many.specs.HeapOrder.{key_at, parent, IsHeap, IsHeapButFirst, IsHeapButLast, IsLesserChild}
 use Rattle.rsb_many.specs.Keys.{comes_before}
 use Rattle.rsb_many.specs.declared.heads.Head.{Head}
@@ -151,7 +151,7 @@ module _ {T : Type 0} (rank : T → ℕ) where
   -- No head of a heap comes before the first.
   pub first-least_of : (heads rest : List (Head T)) (head : Head T) → IsHeap rank heads
       → 0 < length heads → head ≡ slice_index_or heads 0 head → IsPermutation heads (head ∷ rest)
-      → IsLeastOf rank head rest
+      → All (λ other. IsFalse (comes_before (key_of rank other) (key_of rank head))) rest
   first-least_of heads rest head heap some is kept =
       let key = key_of rank head in
       let Fact = λ (other : Head T). IsFalse (comes_before (key_of rank other) key) in

@@ -1,23 +1,21 @@
 -- How the first range of each of many streams is drawn, one stream after the other.
-use Rattle.std.proofs.Common.{◌≡◌, ℕ, zero, suc, ◌+◌, ◌<◌, ◌≤◌, Bool, true, false, cond, nat_le, nat_lt, ◌&&◌, not, List, [], ◌∷◌, length, slice_get, refl, sym, ap, subst, ◌∙◌, arith, All, Option, Some, None}
+use Rattle.std.proofs.Common.{◌≡◌, ℕ, zero, suc, ◌+◌, ◌<◌, ◌≤◌, Bool, true, false, nat_le, nat_lt, ◌&&◌, not, List, [], ◌∷◌, length, slice_get, refl, sym, ap, subst, ◌∙◌, arith, All, Option, Some, None}
 use Rattle.std.proofs.lemmas.Bool.Decides.{nat_tests}
 use Rattle.std.proofs.lemmas.List.{length-set}
-use Rattle.std.proofs.lemmas.List.Elements.{All-head, All-nil, All-tail}
-use Rattle.std.specs.Option.{option_len}
+use Rattle.std.proofs.lemmas.List.Elements.{All-head, All-tail}
 use Rattle.std.specs.Prelude.{IfSome, MatchOption}
-use Rattle.std.specs.declared.ops.RangeInclusive.{RangeInclusive}
 use Rattle.rsb_integer.specs.Runs.{Interval}
 use Rattle.rsb_integer.specs.declared.integer.Integer.{Ghosts as Elements}
 use Rattle.rsb_streams.specs.Stream.{◌⊆◌, outcomes_unless, HasSortedStarts}
 use Rattle.rsb_streams.specs.declared.draw.Draw.{Ghosts as Stream}
 use Rattle.rsb_streams.proofs.lemmas.sources.Known.{IsLawful}
-use Rattle.rsb_many.specs.Drawn.{due_from, inputs_of, IsBegunOf, IsBegunTo, IsUnstarted}
-use Rattle.rsb_many.specs.Inputs.{held_at, input_at, is_over, AreReady, DrawsAt, Inputs}
+use Rattle.rsb_many.specs.Drawn.{due_from, has_begun, inputs_of, IsBegunOf, IsBegunTo}
+use Rattle.rsb_many.specs.Heads.{head_of, HasNone}
+use Rattle.rsb_many.specs.Inputs.{input_at, is_over, DrawsAt}
 use Rattle.rsb_many.specs.Many.{gives_of, may_give_at}
 use Rattle.rsb_many.specs.declared.drawn.Drawn.{Drawn}
-use Rattle.rsb_many.specs.declared.heads.Head.{Head}
-use Rattle.rsb_many.proofs.lemmas.inputs.Draws.{draws-more, draws-ready, draws-unstarted, draws-uses, DrawsDue}
-use Rattle.rsb_many.proofs.lemmas.inputs.OneInput.{can-same, gives_of-uses, uses-same}
+use Rattle.rsb_many.proofs.lemmas.inputs.Draws.{draws-begun, draws-ready, draws-uses, DrawsDue}
+use Rattle.rsb_many.proofs.lemmas.inputs.OneInput.{all-same, gives_of-uses, held-short, held_of, ready-same, uses-same}
 
 -- If a fact holds of all streams, it holds of the stream at each place.
 pub All-slice_get : {S : Type 0} (P : S → Type 0) (streams : List S) (place : ℕ) → All P streams
@@ -61,20 +59,6 @@ module _ {T N I : Type 0} (integer : Elements T N) (stream : Stream I T N)
     (laws : IsLawful integer stream) where
   open integer use {rank, value_count as n}
 
-  -- If two states have the same streams, heads and due ranges, and one is ready, so is the other.
-  ready-same : (s t : Inputs T I) → t.streams ≡ s.streams → t.heads ≡ s.heads
-      → ((place : ℕ) → t.due place ≡ s.due place) → AreReady integer stream s
-      → AreReady integer stream t
-  ready-same s t streams heads dues ready = record {
-    can = λ place. can-same integer stream s t place (ap (λ each. held_at rank each place) heads)
-        (dues place) (ap (λ each. slice_get each place) streams) (ready.can place);
-    sorted = λ place runs at. ready.sorted place runs (gives_of-uses
-        (uses-same integer stream s t place (ap (λ each. held_at rank each place) heads)
-        (dues place) (ap (λ each. slice_get each place) streams)) runs at);
-    one = λ place. rw (heads, dues place) (ready.one place);
-    within = rw (streams, heads) ready.within;
-  }
-
   -- What the stream at a place may give is sorted by start.
   at-sorted : (found : Option I) → IfSome found stream.can_draw
       → (runs : List Interval) → MatchOption found (runs ≡ []) (λ s. stream.may_give s runs)
@@ -99,29 +83,18 @@ module _ {T N I : Type 0} (integer : Elements T N) (stream : Stream I T N)
 
   -- ---- before the first range is drawn
   module _ {A : Type 0} (s : Drawn T I A N) (can : All stream.can_draw s.streams.items)
-      (none : s.heads.heads ≡ []) where
-    -- Nothing is held of an input.
-    holds-none : (place : ℕ) → held_at rank s.heads.heads place ≡ []
-    holds-none place = ap (λ heads. held_at rank heads place) none
-
+      (none : HasNone s.heads.heads) where
     -- An input gives only what its stream may give.
     undrawn-gives : (place : ℕ) → gives_of (input_at integer stream (due_from 0 s) place)
         ⊆ may_give_at stream.may_give s.streams.items place
-    undrawn-gives place = subst (λ runs. gives_of (record {
-      held = runs;
-      undrawn = outcomes_unless (is_over runs ((due_from 0 s).due place))
+    undrawn-gives place = subst (λ head. gives_of (record {
+      held = held_of rank head;
+      undrawn = outcomes_unless (is_over head ((due_from 0 s).due place))
           (may_give_at stream.may_give s.streams.items place);
-    }) ⊆ may_give_at stream.may_give s.streams.items place) (sym (holds-none place))
+    }) ⊆ may_give_at stream.may_give s.streams.items place) (sym (none.none place))
         (gives-due ((due_from 0 s).due place) (slice_get s.streams.items place)
         (λ none. slice_get-past s.streams.items place
         (due-past place (length s.streams.items) none)))
-
-    -- At most one range of an input is held or due.
-    due-one : (held : List Interval) (due : Bool) → held ≡ []
-        → length held + cond {A = ℕ} due 1 0 ≤ 1
-    due-one [] true is = omega arith
-    due-one [] false is = omega arith
-    due-one (run ∷ runs) due is = absurd (cc)
 
     -- So the inputs are ready, before any first range is drawn.
     pub begun-first : s.used ≡ None → length s.streams.items ≤ s.heads.room
@@ -132,15 +105,14 @@ module _ {T N I : Type 0} (integer : Elements T N) (stream : Stream I T N)
         sorted = λ place runs gives. at-sorted (slice_get s.streams.items place)
             (All-slice_get stream.can_draw s.streams.items place can) runs
             (undrawn-gives place runs gives);
-        one = λ place. due-one (held_at rank s.heads.heads place) ((due_from 0 s).due place)
-            (holds-none place);
-        within = rw none (All-nil (λ (head : Head T). head.input < length s.streams.items));
+        one = λ place is. none.none place;
+        within = λ place. rw (none.none place) tt;
       };
-      unstarted = rw none (All-nil IsUnstarted);
+      unstarted = λ place. ap has_begun (none.none place);
       count = refl;
       begun = undrawn-gives;
       used = used;
-      few = rw none (omega arith);
+      few = omega (arith, none.count);
       room = room;
       within = omega arith;
     }
@@ -149,21 +121,20 @@ module _ {T N I : Type 0} (integer : Elements T N) (stream : Stream I T N)
   module _ {A : Type 0} (streams : List I) (first : ℕ) (s : Drawn T I A N)
       (begun : IsBegunTo integer stream streams first s) (less : first < length s.streams.items)
     where
-      -- An input of which a range is due has not ended.
-      goes_on : (held : List Interval) (due : Bool) → due ≡ true → is_over held due ≡ false
-      goes_on [] due is = rw is refl
-      goes_on (run ∷ runs) due is = refl
+      -- It has no head, and a range is due.
+      pub begun-none : head_of s.heads.heads first ≡ None
+      begun-none = begun.ready.one first (due-here first (length s.streams.items) less)
 
-      -- The stream at `first` is ready.
+      -- So it is ready.
       pub begun-can : IfSome (slice_get s.streams.items first) stream.can_draw
-      begun-can = begun.ready.can first (goes_on (held_at rank s.heads.heads first)
-          ((due_from first s).due first) (due-here first (length s.streams.items) less))
+      begun-can = begun.ready.can first
+          (rw (begun-none, due-here first (length s.streams.items) less) refl)
 
   -- ---- one more range is drawn
   module _ {A : Type 0} (streams : List I) (first : ℕ) (s t : Drawn T I A N)
       (begun : IsBegunTo integer stream streams first s) (less : first < length s.streams.items)
-      (draws : DrawsAt integer stream first s.streams.items s.heads.heads t.streams.items
-      t.heads.heads) where
+      (draws : DrawsAt integer stream first s.streams.items (head_of s.heads.heads) t.streams.items
+      (head_of t.heads.heads)) where
     -- The number of streams is unchanged.
     long : length t.streams.items ≡ length s.streams.items
     long = ap (λ (each : List I). length each) draws.stands
@@ -182,23 +153,17 @@ module _ {T N I : Type 0} (integer : Elements T N) (stream : Stream I T N)
       draws = draws;
     }
 
-    -- At most one more head is held, whatever was drawn.
-    few-by : (item : Option (RangeInclusive T))
-        → length t.heads.heads ≡ length s.heads.heads + option_len item
-        → length t.heads.heads ≤ first + 1
-    few-by None more = omega (arith, more, begun.few)
-    few-by (Some range) more = omega (arith, more, begun.few)
-
     -- The first range is drawn from one more stream.
     pub begun-next : t.used ≡ s.used → s.heads.room ≤ t.heads.room
+        → length t.heads.heads ≤ length s.heads.heads + 1
         → IsBegunTo integer stream streams (first + 1) t
-    begun-next used room = record {
+    begun-next used room count = record {
       ready = draws-ready step;
-      unstarted = draws-unstarted step begun.unstarted;
+      unstarted = λ place. draws-begun step place ∙ begun.unstarted place;
       count = long ∙ begun.count;
       begun = λ place runs at. begun.begun place runs (gives_of-uses (draws-uses step place) runs at);
       used = used ∙ begun.used;
-      few = few-by draws.item (draws-more step);
+      few = omega (arith, count, begun.few);
       room = omega (arith, long, room, begun.room);
       within = omega (arith, less, begun.count);
     }
@@ -215,7 +180,8 @@ module _ {T N I : Type 0} (integer : Elements T N) (stream : Stream I T N)
     pub begun-all : IsBegunOf integer stream streams s
     begun-all = record {
       ready = record {
-        inputs = ready-same (due_from first s) (inputs_of s) refl refl none-due begun.ready;
+        inputs = ready-same integer stream (due_from first s) (inputs_of s) (λ place. refl) none-due
+            refl begun.ready;
         room = record {
           used = rw begun.used tt;
           few = rw begun.used (omega (arith, begun.few, begun.within, begun.count));
@@ -226,7 +192,7 @@ module _ {T N I : Type 0} (integer : Elements T N) (stream : Stream I T N)
       count = begun.count;
       begun = λ place. record {
         gives = λ runs at. begun.begun place runs (gives_of-uses (uses-same integer stream
-            (due_from first s) (inputs_of s) place refl (none-due place) refl) runs at);
-        one = omega (arith, begun.ready.one place);
+            (all-same integer stream (due_from first s) (inputs_of s) place refl (none-due place) refl)) runs at);
+        one = held-short rank (head_of s.heads.heads place);
       };
     }

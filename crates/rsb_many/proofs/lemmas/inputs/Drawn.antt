@@ -1,11 +1,6 @@
 -- What a merge or a sweep of many streams holds when a range is drawn, and when none was due.
-use Rattle.std.proofs.Common.{◌≡◌, inl, inr, ℕ, ◌+◌, ◌*◌, ◌<◌, ◌≤◌, List, [], ◌∷◌, length, refl, sym, ap, subst, ◌∙◌, arith, Option, Some, None, IsPermutation}
-use Rattle.std.proofs.lemmas.List.{length-set}
-use Rattle.std.proofs.lemmas.List.Elements.{All-cons, All-nil}
-use Rattle.std.proofs.lemmas.List.Sorted.{IsPermutation-refl}
-use Rattle.std.specs.Iterator.{size, IsFinite, MakesProgress}
-use Rattle.std.specs.Option.{option_len}
-use Rattle.std.specs.Prelude.{MatchOption}
+use Rattle.std.proofs.Common.{◌≡◌, inl, inr, ℕ, ◌+◌, ◌*◌, ◌<◌, ◌≤◌, ◌∷◌, length, refl, sym, ap, subst, ◌∙◌, arith, Some, None}
+use Rattle.std.specs.Iterator.{MakesProgress}
 use Rattle.std.specs.declared.ops.RangeInclusive.{RangeInclusive}
 use Rattle.rsb_integer.specs.Rank.{interval_of}
 use Rattle.rsb_integer.specs.declared.integer.Integer.{Ghosts as Elements}
@@ -15,15 +10,14 @@ use Rattle.rsb_streams.specs.declared.draw.Draw.{Ghosts as Stream}
 use Rattle.rsb_streams.proofs.lemmas.lookahead.EachCall.{uses-nothing}
 use Rattle.rsb_streams.proofs.lemmas.sources.Known.{IsLawful}
 use Rattle.rsb_streams.proofs.lemmas.joining.Gathered.{head-sorted}
-use Rattle.rsb_many.specs.Drawn.{inputs_of, AddsUnstarted, DrawnReady, IsUnstarted, Refills}
-use Rattle.rsb_many.specs.Heads.{binary_digits, closing_bound, head_of, HasValues, HeapView}
-use Rattle.rsb_many.specs.Inputs.{has_ended, input_at, inputs_left, DrawsAt}
+use Rattle.rsb_many.specs.Drawn.{inputs_of, DrawnReady, Refills}
+use Rattle.rsb_many.specs.Heads.{binary_digits, closing_bound, head_at_start, head_of, HasValues, HeapView}
+use Rattle.rsb_many.specs.Inputs.{input_at, DrawsAt}
 use Rattle.rsb_many.specs.declared.drawn.Drawn.{Drawn}
-use Rattle.rsb_many.specs.declared.heads.Head.{Head}
 use Rattle.rsb_many.proofs.lemmas.heap.Digits.{binary_digits-more}
-use Rattle.rsb_many.proofs.lemmas.inputs.Draws.{draws-ended, draws-less, draws-more, draws-ready, draws-unstarted, draws-uses, DrawsDue}
+use Rattle.rsb_many.proofs.lemmas.inputs.Draws.{draws-begun, draws-left, draws-less, draws-long, draws-ready, draws-uses, DrawsDue}
+use Rattle.rsb_many.proofs.lemmas.inputs.Left.{inputs_left-less}
 use Rattle.rsb_many.proofs.lemmas.inputs.Places.{nat_eq-differs, nat_eq-itself}
-use Rattle.rsb_many.proofs.lemmas.inputs.Left.{left_of-set}
 
 -- Closing the place at the top takes at most two comparisons for each binary digit of the number of
 -- heads, or of any greater number.
@@ -36,14 +30,6 @@ few-closing kept count few =
       | inr not_so ↦ rw not_so (omega arith)
     ]
 
--- If the heads are unchanged, none was added.
-nothing-came : {T : Type 0} (old new : List (Head T)) → new ≡ old → AddsUnstarted old new
-nothing-came old new same = record {
-  came = [];
-  unstarted = All-nil IsUnstarted;
-  all = subst (IsPermutation old) (sym same) (IsPermutation-refl old);
-}
-
 module _ {T N I : Type 0} (integer : Elements T N) (stream : Stream I T N)
     (laws : IsLawful integer stream) where
   open integer use {rank, value_count as n}
@@ -52,18 +38,18 @@ module _ {T N I : Type 0} (integer : Elements T N) (stream : Stream I T N)
   pub values-drawn : (before after : I) (range : RangeInclusive T) (place : ℕ)
       → stream.can_draw before → stream.draw_gives before (Some range) after
       → MakesProgress stream.can_draw stream.draws_left before (Some range) after
-      → HasValues rank n (head_of place range)
+      → HasValues rank n (head_at_start place range)
   values-drawn before after range place can call goes =
       let sorted = head-sorted n 0 (interval_of rank range) (stream.may_give after)
       (laws.sorted after goes.keeps).some
       (λ rest at. (laws.sorted before can).all (interval_of rank range ∷ rest)
       (laws.answers before after (Some range) call rest at)) in
-      let is = interval_of-some rank range sorted.1 in
+      let is = interval_of-some rank range sorted.in_order in
       let first = ap (λ run. run.first) is in
       let last = ap (λ run. run.last) is in
       let start : rank range.start < n =
-      omega (arith, sorted.1, sorted.2, first) in
-      record { at = start; stands = refl; start = start; end = omega (arith, sorted.2, last) }
+      omega (arith, sorted.in_order, sorted.in_type, first) in
+      record { at = start; stands = refl; start = start; end = omega (arith, sorted.in_type, last) }
 
   -- If no range was due and nothing changed, that is what `Refills` states.
   pub refills-none : {A : Type 0} (s t : Drawn T I A N) → DrawnReady integer stream s
@@ -80,9 +66,8 @@ module _ {T N I : Type 0} (integer : Elements T N) (stream : Stream I T N)
         none = was_none;
         count = refl;
         uses = λ place. uses-nothing (input_at integer stream (inputs_of s) place);
-        unstarted = λ all. all;
-        came = nothing-came s.heads.heads s.heads.heads refl;
-        left = λ finite. (finite, omega arith);
+        begun = λ place. refl;
+        left = λ each finite. (finite, omega arith);
         compared = few-closing s.heads (length s.streams.items)
             (omega (arith, ready.room.few));
         counted = omega arith;
@@ -92,8 +77,9 @@ module _ {T N I : Type 0} (integer : Elements T N) (stream : Stream I T N)
   module _ {A : Type 0} (s t : Drawn T I A N) (place : ℕ)
       (ready : DrawnReady integer stream s) (used : s.used ≡ Some place) (none : t.used ≡ None)
       (room : s.heads.room ≤ t.heads.room)
-      (draws : DrawsAt integer stream place s.streams.items s.heads.heads t.streams.items
-      t.heads.heads)
+      (count : length t.heads.heads ≤ length s.heads.heads + 1)
+      (draws : DrawsAt integer stream place s.streams.items (head_of s.heads.heads) t.streams.items
+      (head_of t.heads.heads))
       (compared : t.heads.comparisons + closing_bound t.heads
       ≤ s.heads.comparisons + 2 * binary_digits (length t.heads.heads))
       (counted : s.heads.comparisons ≤ t.heads.comparisons)
@@ -111,22 +97,9 @@ module _ {T N I : Type 0} (integer : Elements T N) (stream : Stream I T N)
         draws = draws;
       }
 
-      -- The number of streams is unchanged.
-      long : length t.streams.items ≡ length s.streams.items
-      long = ap (λ (streams : List I). length streams) draws.stands
-          ∙ length-set s.streams.items place draws.after
-
       -- There are at most as many heads as streams.
       few : length t.heads.heads ≤ length s.streams.items
-      few = few-by draws.item (draws-more step) (rw used at ready.room.few)
-        where
-          -- The same for each option of what was drawn.
-          few-by : (item : Option (RangeInclusive T))
-              → length t.heads.heads ≡ length s.heads.heads + option_len item
-              → length s.heads.heads + 1 ≤ length s.streams.items
-              → length t.heads.heads ≤ length s.streams.items
-          few-by None more room = omega (arith, more, room)
-          few-by (Some range) more room = omega (arith, more, room)
+      few = let room = rw used at ready.room.few in omega (arith, count, room)
 
       -- So the range that was due is drawn, as `Refills` states.
       pub refills : Refills integer stream s t
@@ -135,46 +108,20 @@ module _ {T N I : Type 0} (integer : Elements T N) (stream : Stream I T N)
           inputs = draws-ready step;
           room = record {
             used = rw none tt;
-            few = rw none (omega (arith, few, long));
-            room = omega (arith, long, room, ready.room.room);
+            few = rw none (omega (arith, few, draws-long step));
+            room = omega (arith, draws-long step, room, ready.room.room);
           };
         };
         none = none;
-        count = long;
+        count = draws-long step;
         uses = draws-uses step;
-        unstarted = draws-unstarted step;
-        came = came-by draws.item draws.kept;
-        left = λ finite. fewer finite;
+        begun = draws-begun step;
+        left = λ each finite.
+            let less = inputs_left-less integer stream 0 each place (inputs_of s) (inputs_of t)
+            (draws-long step) step.less (draws-left step each) (draws-less step each) finite in
+            (less.0, omega (arith, less.1));
         compared =
             let more = binary_digits-more (length t.heads.heads) (length s.streams.items) few in
             omega (arith, compared, more);
         counted = counted;
       }
-        where
-          -- The start of the head that was added was not reported, whatever was drawn.
-          came-by : (item : Option (RangeInclusive T))
-              → MatchOption item (t.heads.heads ≡ s.heads.heads)
-              (λ range. IsPermutation (head_of place range ∷ s.heads.heads)
-              t.heads.heads)
-              → AddsUnstarted s.heads.heads t.heads.heads
-          came-by None kept = nothing-came s.heads.heads t.heads.heads kept
-          came-by (Some range) kept =
-              let head = head_of place range in
-              record {
-                came = head ∷ [];
-                unstarted = All-cons IsUnstarted head [] refl (All-nil IsUnstarted);
-                all = kept;
-              }
-
-          -- No more ranges are left than before.
-          fewer : IsFinite (inputs_left integer stream (inputs_of s))
-              → IsFinite (inputs_left integer stream (inputs_of t))
-              × (size (inputs_left integer stream (inputs_of t))
-              ≤ size (inputs_left integer stream (inputs_of s)))
-          fewer finite =
-              let set_left = left_of-set stream.draws_left (option_len draws.item)
-              (has_ended integer stream (inputs_of s)) (has_ended integer stream (inputs_of t))
-              s.streams.items place draws.before draws.after draws.stood (draws-ended step)
-              (draws-less step) finite in
-              let more = draws-more step in
-              rw draws.stands (set_left.0, omega (arith, set_left.1, more))

@@ -2,7 +2,8 @@
 use Rattle.std.proofs.Common.{true, List, refl}
 use Rattle.std.proofs.iter.runs.Made.{run, seen, to_end}
 use Rattle.std.specs.Iterator.{DrainsIf, Yields}
-use Rattle.std.specs.Prelude.{⊤, length, Option, None}
+use Rattle.std.proofs.lemmas.Result.{IfOk-weaker}
+use Rattle.std.specs.Prelude.{⊤, length, IfOk, Option, None, Result}
 use Rattle.rsb_streams.specs.Items.{GaveAll, GaveRun}
 use Rattle.rsb_many.specs.HandedIn.{EachGaveRun}
 
@@ -16,6 +17,17 @@ module _ {J I X : Type 0} (becomes : J → I → Type 0) (steps : I → Option X
     gave.1,
     (gave.2.0, gave.2.1, gave.2.2, follows gave.2.0.items gave.2.3),
   )
+
+  -- The same holds in the result of a call that returned `Ok`.
+  pub gave-ok : {Y E : Type 0} (result : Result Y E) (Fact Other : List X → Y → Type 0)
+      → ((items : List X) (made : Y) → Fact items made → Other items made)
+      → IfOk result (λ made. GaveRun becomes steps value (λ items. Fact items made))
+      → IfOk result (λ made. GaveRun becomes steps value (λ items. Other items made))
+  gave-ok result Fact Other follows = IfOk-weaker result
+      (λ made. GaveRun becomes steps value (λ items. Fact items made))
+      (λ made. GaveRun becomes steps value (λ items. Other items made))
+      (λ made. gave-each (λ items. Fact items made) (λ items. Other items made)
+      (λ items. follows items made))
 
   -- Items that came before `None` are the items of a whole run.
   pub ended-run : (Fact : List X → Type 0) (iter last next : I) (items : List X)

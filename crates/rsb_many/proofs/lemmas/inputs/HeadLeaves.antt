@@ -1,29 +1,29 @@
 -- What a merge or a sweep of many streams holds if the least head leaves, if it is put back, and if
 -- there is none.
-use Rattle.std.proofs.Common.{◌≡◌, inl, inr, ℕ, ◌+◌, ◌*◌, ◌<◌, ◌≤◌, true, false, cond, nat_lt, List, [], ◌∷◌, ◌++◌, length, slice_get, refl, sym, ap, subst, ◌∙◌, arith, All}
+use Rattle.std.proofs.Common.{◌≡◌, inl, inr, ℕ, ◌+◌, ◌*◌, ◌<◌, ◌≤◌, true, false, cond, nat_lt, List, [], ◌++◌, length, slice_get, refl, sym, ap, ◌∙◌, arith}
 use Rattle.std.proofs.lemmas.Bool.{ltb-false}
 use Rattle.std.proofs.lemmas.List.{append-nil}
-use Rattle.std.proofs.lemmas.List.Elements.{All-cons, All-head, All-tail}
-use Rattle.std.proofs.lemmas.List.Sorted.{All-permutation, length_permutation}
-use Rattle.rsb_integer.specs.Runs.{Interval}
+use Rattle.std.specs.Iterator.{at_most, count_map}
+use Rattle.std.specs.Option.{option_map_or}
+use Rattle.std.specs.Prelude.{IfSome}
 use Rattle.rsb_integer.specs.declared.integer.Integer.{Ghosts as Elements}
 use Rattle.rsb_integer.proofs.lemmas.List.{true_or_false}
-use Rattle.rsb_streams.specs.Lookahead.{Ends, GivesFrom, HasEnded, Uses}
+use Rattle.rsb_streams.specs.Lookahead.{Ends, HasEnded, Uses}
 use Rattle.rsb_streams.specs.Stream.{◌⊆◌, just}
 use Rattle.rsb_streams.specs.declared.draw.Draw.{Ghosts as Stream}
+use Rattle.rsb_streams.proofs.lemmas.lookahead.EachCall.{uses-then}
 use Rattle.rsb_many.specs.Drawn.{inputs_of, is_at, DrawnReady, HasNoHead, PutsBack, Refills, TakesHead}
-use Rattle.rsb_many.specs.Heads.{binary_digits, run_of_head, head_at_end}
-use Rattle.rsb_many.specs.Inputs.{has_ended, held_at, input_at, left_of, AreReady, Inputs}
+use Rattle.rsb_many.specs.Heads.{binary_digits, head_of}
+use Rattle.rsb_many.specs.Inputs.{has_ended, input_at, inputs_left, Inputs}
 use Rattle.rsb_many.specs.KMerge.{comparison_bound}
 use Rattle.rsb_many.specs.Many.{gives_of}
 use Rattle.rsb_many.specs.declared.drawn.Drawn.{Drawn}
 use Rattle.rsb_many.specs.declared.heads.Head.{Head}
 use Rattle.rsb_many.proofs.lemmas.heap.Digits.{binary_digits-more}
-use Rattle.rsb_many.proofs.lemmas.inputs.Held.{held_at-permutation}
-use Rattle.rsb_many.proofs.lemmas.inputs.Leaves.{held-head, leaves-gives, leaves-goes, leaves-none, leaves-others, leaves-ready, leaves-spares, LosesHead}
-use Rattle.rsb_many.proofs.lemmas.inputs.Left.{left_of-same}
-use Rattle.rsb_many.proofs.lemmas.inputs.OneInput.{can-same, gives_of-uses, uses-same}
-use Rattle.rsb_many.proofs.lemmas.inputs.Places.{nat_eq-differs, nat_eq-itself}
+use Rattle.rsb_many.proofs.lemmas.inputs.Leaves.{taken-inputs, taken-less, taken-long, taken-streams}
+use Rattle.rsb_many.proofs.lemmas.inputs.Left.{inputs_left-less, less-as, LessBy}
+use Rattle.rsb_many.proofs.lemmas.inputs.OneInput.{all-same, can-same, gives_of-uses, held_of, left-same, ready-same, uses-same, StaysAt}
+use Rattle.rsb_many.proofs.lemmas.inputs.Places.{at-place}
 
 -- Two comparisons for each binary digit of `count`, and two for each digit of the number of heads,
 -- stay within `comparison_bound`.
@@ -58,91 +58,24 @@ module _ {T N I A : Type 0} {integer : Elements T N} {stream : Stream I T N} {s 
 
   -- ---- the least head leaves
   module _ {t : Drawn T I A N} {head : Head T} (takes : TakesHead integer stream m head t) where
-    -- The inputs afterwards.
-    abbrev now : Inputs T I
-    now = inputs_of t
-
-    -- The streams are the same.
-    taken-streams : now.streams ≡ before.streams
-    taken-streams = ap (λ each. each.items) takes.streams
-
-    -- A range of another input is due exactly if it was before.
-    pub taken-dues : (place : ℕ) → ¬ (place ≡ head.input) → now.due place ≡ before.due place
-    taken-dues place differs = rw (takes.used, none) (nat_eq-differs head.input place differs)
-
-    -- The head leaves, and a range of its input is due.
-    pub taken-loses : LosesHead integer stream before now head
-    taken-loses = record {
-      ready = ready.inputs;
-      streams = taken-streams;
-      kept = takes.taken.kept;
-      due = rw takes.used (nat_eq-itself head.input);
-      dues = taken-dues;
-    }
-
-    -- The number of streams is unchanged.
-    pub taken-long : length t.streams.items ≡ length m.streams.items
-    taken-long = ap (λ (each : List I). length each) taken-streams
-
-    -- There is one head fewer.
-    pub taken-fewer : length m.heads.heads ≡ length t.heads.heads + 1
-    taken-fewer =
-        let same = length_permutation m.heads.heads (head ∷ t.heads.heads) takes.taken.kept in
-        omega (arith, same)
-
     -- The head belongs to one of the inputs.
-    pub taken-less : head.input < length m.streams.items
-    taken-less = All-head (λ (each : Head T). each.input < length m.streams.items) head t.heads.heads
-        (All-permutation (λ (each : Head T). each.input < length m.streams.items) m.heads.heads
-        (head ∷ t.heads.heads) takes.taken.kept ready.inputs.within)
-
-    -- Nothing is held of its input any more.
-    pub taken-none : held_at rank t.heads.heads head.input ≡ []
-    taken-none = leaves-none taken-loses
-
-    -- Before, only the range of the head was held of its input.
-    pub taken-held : held_at rank m.heads.heads head.input ≡ run_of_head rank head ∷ []
-    taken-held = sym (held-head taken-loses)
-        ∙ ap (λ runs. run_of_head rank head ∷ runs) taken-none
-
-    -- Its input gives the range.
-    pub taken-gives : GivesFrom (input_at integer stream before head.input) (run_of_head rank head)
-        (input_at integer stream now head.input)
-    taken-gives = leaves-gives taken-loses
-
-    -- What is held of the other inputs is unchanged.
-    pub taken-others : (place : ℕ) → ¬ (place ≡ head.input)
-        → held_at rank t.heads.heads place ≡ held_at rank m.heads.heads place
-    taken-others = leaves-others taken-loses
-
-    -- The other inputs use nothing.
-    pub taken-spares : (place : ℕ) → ¬ (place ≡ head.input)
-        → Uses (input_at integer stream before place) [] (input_at integer stream now place)
-    taken-spares = leaves-spares taken-loses
+    less : head.input < length m.streams.items
+    less = taken-less filled takes
 
     -- The inputs are ready again, and there is room for their heads.
     pub taken-ready : DrawnReady integer stream t
     taken-ready = record {
-      inputs = leaves-ready taken-loses;
+      inputs = taken-inputs filled takes;
       room = record {
-        used = rw takes.used (omega (arith, taken-less, taken-long));
+        used = rw takes.used (omega (arith, less, taken-long filled takes));
         few = rw takes.used few-now;
-        room = omega (arith, ready.room.room, takes.room, taken-long);
+        room = omega (arith, ready.room.room, takes.room, taken-long filled takes);
       };
     }
       where
         -- There is room for the next head of its input.
         few-now : length t.heads.heads + 1 ≤ length t.streams.items
-        few-now = omega (arith, taken-fewer, ready.room.few, taken-long)
-
-    -- The streams have as many ranges left as before.
-    pub taken-left : left_of stream.draws_left (has_ended integer stream now) now.streams
-        ≡ left_of stream.draws_left (has_ended integer stream before) before.streams
-    taken-left = left_of-same stream.draws_left (has_ended integer stream before)
-        (has_ended integer stream now) now.streams
-        (leaves-goes taken-loses)
-        ∙ ap (λ each. left_of stream.draws_left (has_ended integer stream before) each)
-        taken-streams
+        few-now = omega (arith, takes.taken.count, ready.room.few, taken-long filled takes)
 
     -- ---- it is put back
     module _ {u : Drawn T I A N} (back : PutsBack t head u) where
@@ -152,7 +85,7 @@ module _ {T N I A : Type 0} {integer : Elements T N} {stream : Stream I T N} {s 
 
       -- The streams are the same.
       back-streams : again.streams ≡ before.streams
-      back-streams = ap (λ each. each.items) back.streams ∙ taken-streams
+      back-streams = ap (λ each. each.items) back.streams ∙ taken-streams filled takes
 
       -- The number of streams is unchanged.
       pub back-long : length u.streams.items ≡ length m.streams.items
@@ -162,51 +95,45 @@ module _ {T N I A : Type 0} {integer : Elements T N} {stream : Stream I T N} {s 
       pub back-due : (place : ℕ) → again.due place ≡ false
       back-due place = rw back.used refl
 
-      -- What is held of each input is unchanged.
-      pub back-held : (place : ℕ)
-          → held_at rank u.heads.heads place ≡ held_at rank m.heads.heads place
-      back-held place =
-          let whole : held_at rank (head ∷ t.heads.heads) place ≡ held_at rank m.heads.heads place =
-          held_at-permutation rank place m.heads.heads (head ∷ t.heads.heads) takes.taken.kept
-          (omega (arith, ready.inputs.one place)) in
-          let short : length (held_at rank (head_at_end head ∷ t.heads.heads) place) ≤ 1 =
-          subst (λ (runs : List Interval). length runs ≤ 1) (sym whole)
-          (omega (arith, ready.inputs.one place)) in
-          held_at-permutation rank place (head_at_end head ∷ t.heads.heads) u.heads.heads back.kept
-          short ∙ whole
+      -- The heads of the other inputs are unchanged.
+      pub back-others : (place : ℕ) → ¬ (place ≡ head.input)
+          → head_of u.heads.heads place ≡ head_of m.heads.heads place
+      back-others place differs =
+          back.heads.others place differs ∙ takes.taken.leaves.others place differs
+
+      -- What each input holds is unchanged, and so is its stream.
+      back-stays : (place : ℕ) → StaysAt integer stream before again place
+      back-stays = at-place (StaysAt integer stream before again) head.input
+          (record {
+            held = rw (back.heads.here, takes.taken.was) refl;
+            over = rw (back.heads.here, takes.taken.was) refl;
+            found = ap (λ each. slice_get each head.input) back-streams;
+          })
+          (λ place differs. all-same integer stream before again place (back-others place differs)
+          (back-due place ∙ sym (none-due place)) (ap (λ each. slice_get each place) back-streams))
 
       -- No input uses anything.
       pub back-uses : (place : ℕ)
           → Uses (input_at integer stream before place) [] (input_at integer stream again place)
-      back-uses place = uses-same integer stream before again place (back-held place)
-          (back-due place ∙ sym (none-due place)) (ap (λ each. slice_get each place) back-streams)
-
-      -- The same inputs have ended as before.
-      back-goes : (place : ℕ)
-          → has_ended integer stream again place ≡ has_ended integer stream before place
-      back-goes place = rw (back-held place, back-due place, none-due place) refl
+      back-uses place = uses-same integer stream (back-stays place)
 
       -- There are as many heads as before.
       pub back-many : length u.heads.heads ≡ length m.heads.heads
-      back-many =
-          let same = length_permutation (head_at_end head ∷ t.heads.heads) u.heads.heads back.kept
-          in
-          omega (arith, same, taken-fewer)
+      back-many = omega (arith, back.count, takes.taken.count)
 
       -- The inputs are ready again, and there is room for their heads.
       pub back-ready : DrawnReady integer stream u
       back-ready = record {
         inputs = record {
-          can = λ place. can-same integer stream before again place (back-held place)
-              (back-due place ∙ sym (none-due place))
-              (ap (λ each. slice_get each place) back-streams) (ready.inputs.can place);
+          can = λ place. can-same integer stream (back-stays place) (ready.inputs.can place);
           sorted = λ place runs gives. ready.inputs.sorted place runs
               (gives_of-uses (back-uses place) runs gives);
-          one = λ place. rw (back-held place, back-due place) (one-held place);
-          within = subst (λ count. All (λ (each : Head T). each.input < count) u.heads.heads)
-              (sym back-long)
-              (All-permutation (λ (each : Head T). each.input < length m.streams.items)
-              (head_at_end head ∷ t.heads.heads) u.heads.heads back.kept all-within);
+          one = λ place is. absurd (let no = back-due place in cc);
+          within = at-place
+              (λ place. IfSome (head_of u.heads.heads place) (λ each. place < length u.streams.items))
+              head.input (rw back.heads.here (omega (arith, less, back-long)))
+              (λ place differs. rw (back-others place differs, back-streams)
+              (ready.inputs.within place));
         };
         room = record {
           used = rw back.used tt;
@@ -214,72 +141,70 @@ module _ {T N I A : Type 0} {integer : Elements T N} {stream : Stream I T N} {s 
           room = omega (arith, ready.room.room, takes.room, back.room, back-long);
         };
       }
-        where
-          -- At most one range of each input is held.
-          one-held : (place : ℕ)
-              → length (held_at rank m.heads.heads place) + cond {A = ℕ} false 1 0 ≤ 1
-          one-held place = omega (arith, ready.inputs.one place)
 
-          -- Each head belongs to an input.
-          all-within : All (λ (each : Head T). each.input < length m.streams.items)
-              (head_at_end head ∷ t.heads.heads)
-          all-within = All-cons (λ (each : Head T). each.input < length m.streams.items)
-              (head_at_end head) t.heads.heads taken-less
-              (All-tail (λ (each : Head T). each.input < length m.streams.items) head t.heads.heads
-              (All-permutation (λ (each : Head T). each.input < length m.streams.items)
-              m.heads.heads (head ∷ t.heads.heads) takes.taken.kept ready.inputs.within))
-
-      -- The streams have as many ranges left as before.
-      pub back-left : left_of stream.draws_left (has_ended integer stream again) again.streams
-          ≡ left_of stream.draws_left (has_ended integer stream before) before.streams
-      back-left = left_of-same stream.draws_left (has_ended integer stream before)
-          (has_ended integer stream again) again.streams back-goes
-          ∙ ap (λ each. left_of stream.draws_left (has_ended integer stream before) each)
-          back-streams
+      -- If its start had not been reported, one item fewer is left.
+      pub back-fewer : head.started ≡ false
+          → LessBy 1 (inputs_left integer stream 2 before) (inputs_left integer stream 2 again)
+      back-fewer starts =
+          let left = option_map_or stream.draws_left (slice_get before.streams head.input) (at_most 0)
+          in
+          inputs_left-less integer stream 1 2 head.input before again back-long less
+          (λ place differs. left-same integer stream before again place (back-others place differs)
+          (back-due place ∙ sym (none-due place)) (ap (λ each. slice_get each place) back-streams) 2)
+          (less-as 1 _ _ (count_map (λ n. 2 * n + 2) left) (count_map (λ n. 2 * n + 1) left)
+          (rw (takes.taken.was, starts) refl) (rw (back.heads.here, back-streams) refl)
+          (λ finite. (finite, omega arith)))
 
   -- ---- there is no head
   module _ {t : Drawn T I A N} (empty : HasNoHead m t) where
-    -- The inputs are unchanged.
-    pub none-unchanged : inputs_of t ≡ before
-    none-unchanged = same-by (ap (λ each. each.items) empty.streams) (empty.new ∙ sym empty.old)
-        (empty.used ∙ sym none)
-      where
-        -- The same, from the equality of the parts.
-        same-by : t.streams.items ≡ m.streams.items → t.heads.heads ≡ m.heads.heads
-            → t.used ≡ m.used → inputs_of t ≡ before
-        same-by first second third = rw (first, second, third) refl
+    -- The inputs after the call.
+    abbrev last : Inputs T I
+    last = inputs_of t
+
+    -- The streams are the same.
+    none-streams : last.streams ≡ before.streams
+    none-streams = ap (λ each. each.items) empty.streams
+
+    -- No input has a head, as before.
+    none-heads : (place : ℕ) → last.head_of place ≡ before.head_of place
+    none-heads place = empty.new.none place ∙ sym (empty.old.none place)
+
+    -- No range is due, as before.
+    none-dues : (place : ℕ) → last.due place ≡ before.due place
+    none-dues place = rw (empty.used, none) refl
 
     -- The number of streams is unchanged.
     pub none-long : length t.streams.items ≡ length m.streams.items
     none-long = ap (λ each. length each.items) empty.streams
 
     -- Each input has ended.
-    pub none-over : (place : ℕ) → has_ended integer stream (inputs_of t) place ≡ true
-    none-over place = rw (empty.new, empty.used) refl
+    none-over : (place : ℕ) → has_ended integer stream last place ≡ true
+    none-over place = rw (empty.new.none place, empty.used) refl
 
     -- So nothing of it is held, and it gives nothing.
-    pub none-ended : (place : ℕ) → HasEnded (input_at integer stream (inputs_of t) place)
+    none-ended : (place : ℕ) → HasEnded (input_at integer stream last place)
     none-ended place = record {
-      held = rw empty.new refl;
+      held = ap (held_of rank) (empty.new.none place);
       gives = λ runs at. rw (none-over place) at at;
     }
 
     -- What each input gives is the empty list.
-    pub none-nothing : (place : ℕ)
-        → gives_of (input_at integer stream (inputs_of t) place) ⊆ just []
+    pub none-nothing : (place : ℕ) → gives_of (input_at integer stream last place) ⊆ just []
     none-nothing place runs gives =
         let ended = none-ended place in
         gives.2 ∙ ap (λ each. each ++ gives.0) ended.held ∙ ended.gives gives.0 gives.1
 
     -- An input used nothing in the whole call.
     none-uses : (place : ℕ) → Uses (input_at integer stream (inputs_of s) place) []
-        (input_at integer stream (inputs_of t) place)
-    none-uses place = subst (λ each. Uses (input_at integer stream (inputs_of s) place) []
-        (input_at integer stream each place)) (sym none-unchanged) (filled.uses place)
+        (input_at integer stream last place)
+    none-uses place = uses-then (input_at integer stream (inputs_of s) place)
+        (input_at integer stream before place) (input_at integer stream last place) [] []
+        (filled.uses place) (uses-same integer stream (all-same integer stream before last place (none-heads place)
+        (none-dues place) (ap (λ each. slice_get each place) none-streams)))
 
     -- And it ended.
     pub none-ends : (place : ℕ) → Ends (input_at integer stream (inputs_of s) place)
-        (input_at integer stream (inputs_of t) place)
+        (input_at integer stream last place)
     none-ends place =
         let uses = none-uses place in
         let ended = none-ended place in
@@ -297,16 +222,16 @@ module _ {T N I A : Type 0} {integer : Elements T N} {stream : Stream I T N} {s 
     none-might place = gives_of-uses (none-uses place) [] (
       [],
       rw (none-over place) refl,
-      sym (append-nil (held_at rank t.heads.heads place) ∙ (none-ended place).held),
+      sym (append-nil (held_of rank (last.head_of place)) ∙ (none-ended place).held),
     )
 
     -- The inputs are ready again, and there is room for their heads.
     pub none-ready : DrawnReady integer stream t
     none-ready = record {
-      inputs = subst (AreReady integer stream) (sym none-unchanged) ready.inputs;
+      inputs = ready-same integer stream before last none-heads none-dues none-streams ready.inputs;
       room = record {
         used = rw empty.used tt;
-        few = rw (empty.used, empty.new) (omega arith);
+        few = rw empty.used (omega (arith, empty.new.count));
         room = omega (arith, ready.room.room, empty.room, none-long);
       };
     }

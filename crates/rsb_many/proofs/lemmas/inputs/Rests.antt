@@ -145,7 +145,7 @@ pub touching-rest : (begun : Bool) (runs : List Interval) → IsTouching runs
     → IsTouchingRest (rest_by begun runs)
 touching-rest false runs touching = touching
 touching-rest true [] touching = tt
-touching-rest true (run ∷ runs) touching = touching.2
+touching-rest true (run ∷ runs) touching = touching.rest
 
 -- An input without ranges leaves nothing.
 rest_by-nothing : (begun : Bool) → rest_by begun [] ≡ nothing_left
@@ -245,6 +245,39 @@ module _ (count : ℕ) (before now : ℕ → Outcomes) (begun now_begun : ℕ �
   abbrev earlier : List (List Interval) → List (List Interval)
   earlier lists = set lists place (used ++ get_or lists place [])
 
+  module _ (lists : List (List Interval)) (inside : place < length lists) where
+    -- What is left before the event.
+    abbrev rests : List Rest
+    rests = rests_by begun (earlier lists)
+
+    -- There are as many lists before the event.
+    earlier-long : length (earlier lists) ≡ length lists
+    earlier-long = length-set lists place (used ++ get_or lists place [])
+
+    -- At the place of the event, the list has the ranges that were used, too.
+    rest-here : get_or rests place nothing_left
+        ≡ rest_by (begun place) (used ++ get_or lists place [])
+    rest-here =
+        get_or-rests_by begun (earlier lists) place nothing_left (omega (arith, inside, earlier-long))
+        ∙ ap (rest_by (begun place))
+        (get_or-set_same lists place (used ++ get_or lists place []) [] inside)
+
+    -- At another place, the list is the same as after the event.
+    rest-elsewhere : (other : ℕ) (default : Rest) → other < length lists → other ≢ place
+        → get_or rests other default ≡ rest_by (begun other) (get_or lists other [])
+    rest-elsewhere other default there differs =
+        get_or-rests_by begun (earlier lists) other default (omega (arith, there, earlier-long))
+        ∙ ap (rest_by (begun other))
+        (get_or-set_other lists place other (used ++ get_or lists place []) [] differs)
+
+    -- Only what is left at the place of the event changes.
+    rests-after : set rests place (rest_by (now_begun place) (get_or lists place []))
+        ≡ rests_by now_begun lists
+    rests-after =
+        set-rests_by begun now_begun (earlier lists) place (get_or lists place []) stays
+        ∙ ap (rests_by now_begun) (set-set lists place (used ++ get_or lists place [])
+        (get_or lists place []) ∙ set-get_or lists place [])
+
   -- If an event is the first of its input and no other input has an earlier one, it may come before
   -- the later events.
   pub events-told : (events : List Event)
@@ -257,27 +290,16 @@ module _ (count : ℕ) (before now : ℕ → Outcomes) (begun now_begun : ℕ �
       let inside : place < length lists = omega (arith, less, long) in
       let before_each = one_of_each-set count before now lists place (used ++ runs) each less
       (here runs may) elsewhere in
-      let rests = rests_by begun (earlier lists) in
-      let same_long = length-rests_by begun (earlier lists) in
-      let set_long = length-set lists place (used ++ runs) in
-      let within : place < length rests = omega (arith, inside, same_long, set_long) in
-      let own : get_or rests place nothing_left ≡ rest_by (begun place) (used ++ runs) =
-      get_or-rests_by begun (earlier lists) place nothing_left (omega (arith, inside, set_long))
-      ∙ ap (rest_by (begun place)) (get_or-set_same lists place (used ++ runs) [] inside) in
-      let after : set rests place (rest_by (now_begun place) runs) ≡ rests_by now_begun lists =
-      set-rests_by begun now_begun (earlier lists) place runs stays
-      ∙ ap (rests_by now_begun) (set-set lists place (used ++ runs) runs
-      ∙ set-get_or lists place []) in
+      let same_long = length-rests_by begun (earlier lists) ∙ earlier-long lists inside in
       nothing (earlier lists) before_each
-      (events-next rests place nothing_left event (rest_by (now_begun place) runs)
-      (rests-touching count before begun (earlier lists) touching before_each) within
-      (ap (events_of_rest place) own ∙ is runs may)
-      (λ other default within_other differs.
-      let there : other < length lists = omega (arith, within_other, same_long, set_long) in
+      (events-next (rests lists inside) place nothing_left event (rest_by (now_begun place) runs)
+      (rests-touching count before begun (earlier lists) touching before_each)
+      (omega (arith, inside, same_long))
+      (ap (events_of_rest place) (rest-here lists inside) ∙ is runs may)
+      (λ other default within differs.
+      let there : other < length lists = omega (arith, within, same_long) in
       subst (λ rest. IsNotBefore (events_of_rest other rest) event)
-      (sym (get_or-rests_by begun (earlier lists) other default
-      (omega (arith, there, set_long))
-      ∙ ap (rest_by (begun other)) (get_or-set_other lists place other (used ++ runs) [] differs)))
+      (sym (rest-elsewhere lists inside other default there differs))
       (least other (omega (arith, there, long)) differs (get_or lists other [])
       (one_of_each-at count now lists other each (omega (arith, there, long)))))
-      events (subst (λ each_rest. AreEventsOf each_rest events) (sym after) given)))
+      events (subst (λ each_rest. AreEventsOf each_rest events) (sym (rests-after lists inside)) given)))

@@ -2,7 +2,7 @@
 use Rattle.std.proofs.Common.{◌≡◌, ℕ, zero, suc, pred, ◌<◌, List, [], ◌∷◌, refl, ap, arith}
 use Rattle.rsb_integer.specs.Runs.{Interval}
 use Rattle.rsb_streams.specs.Stream.{◌⊆◌, just, merges, HasSortedStarts, HasSortedStartsFrom, Outcomes}
-use Rattle.rsb_many.specs.ManyLaws.{merges_all-starts}
+use Rattle.rsb_many.specs.laws.Many.{merges_all-starts}
 use Rattle.rsb_streams.proofs.lemmas.merging.Answers.{head-left, head-right, no-merges}
 use Rattle.rsb_many.specs.Many.{merges_all}
 

@@ -1,30 +1,31 @@
 -- One draw of a merge of any number of streams.
-use Rattle.std.proofs.Common.{◌≡◌, inl, inr, ℕ, ◌+◌, ◌<◌, ◌≤◌, true, false, nat_lt, List, [], ◌∷◌, length, refl, sym, ap, subst, ◌∙◌, arith, All, Some, None, IsFalse}
+use Rattle.std.proofs.Common.{◌≡◌, inl, inr, ℕ, ◌+◌, ◌<◌, ◌≤◌, true, false, cond, nat_lt, List, [], ◌∷◌, length, refl, sym, ap, subst, ◌∙◌, arith, None, Option, Some, IsFalse}
 use Rattle.std.proofs.lemmas.Bool.{ltb-false}
-use Rattle.std.proofs.lemmas.List.Elements.{All-head, All-nil, All-tail}
-use Rattle.std.proofs.lemmas.List.Sorted.{All-permutation}
 use Rattle.std.specs.Iterator.{size, IsFinite, MakesProgress}
+use Rattle.std.specs.Prelude.{IfSome}
 use Rattle.std.specs.declared.ops.RangeInclusive.{RangeInclusive}
 use Rattle.rsb_integer.specs.Rank.{interval_of}
 use Rattle.rsb_integer.specs.Runs.{Interval}
 use Rattle.rsb_integer.specs.declared.integer.Integer.{Ghosts as Elements}
-use Rattle.rsb_integer.proofs.lemmas.List.{true_or_false, All-both}
+use Rattle.rsb_integer.proofs.lemmas.List.{true_or_false}
 use Rattle.rsb_streams.specs.Lookahead.{GivesFrom, Spares, TakesOne}
 use Rattle.rsb_streams.specs.declared.draw.Draw.{Ghosts as Stream}
 use Rattle.rsb_streams.proofs.lemmas.lookahead.EachCall.{uses-then}
 use Rattle.rsb_streams.proofs.lemmas.sources.Known.{IsLawful}
-use Rattle.rsb_many.specs.Drawn.{inputs_of, is_at, HasNoHead, IsBegunOf, IsUnstarted, Refills, TakesHead}
-use Rattle.rsb_many.specs.Heads.{closing_bound, key_of, run_of_head}
+use Rattle.rsb_many.specs.Drawn.{has_begun, inputs_of, HasNoHead, IsBegunOf, Refills, TakesHead}
+use Rattle.rsb_many.specs.Heads.{closing_bound, head_of, key_of, run_of_head}
 use Rattle.rsb_many.specs.Inputs.{input_at, inputs_left, inputs_merge, Inputs}
-use Rattle.rsb_many.specs.KMerge.{comparison_bound, kmerge, kmerge_inputs, KMergeReady, MakesKMerge}
+use Rattle.rsb_many.specs.KMerge.{comparison_bound, kmerge, kmerge_inputs, BeginsKMerge, KMergeReady}
+use Rattle.rsb_many.specs.laws.KMerge.{inputs-finite}
 use Rattle.rsb_many.specs.Keys.{comes_before}
 use Rattle.rsb_many.specs.Many.{gives_of, may_give_at, merges_all}
 use Rattle.rsb_many.specs.declared.drawn.Drawn.{Drawn}
 use Rattle.rsb_many.specs.declared.heads.Head.{Head}
 use Rattle.rsb_many.specs.declared.kmerge.KMerge.{KMerge}
-use Rattle.rsb_many.proofs.lemmas.inputs.HeadLeaves.{few-compared, none-ends, none-long, none-might, none-nothing, none-ready, taken-fewer, taken-gives, taken-left, taken-less, taken-long, taken-loses, taken-ready}
-use Rattle.rsb_many.proofs.lemmas.inputs.Leaves.{leaves-others_spared, leaves-starts}
+use Rattle.rsb_many.proofs.lemmas.inputs.HeadLeaves.{few-compared, none-ends, none-long, none-might, none-nothing, none-ready, taken-ready}
+use Rattle.rsb_many.proofs.lemmas.inputs.Leaves.{taken-fewer, taken-gives, taken-less, taken-long, taken-others_spared, taken-starts}
 use Rattle.rsb_many.proofs.lemmas.inputs.OneInput.{gives_of-uses}
+use Rattle.rsb_many.proofs.lemmas.inputs.Places.{at-place}
 use Rattle.rsb_many.proofs.lemmas.merging.Lists.{merges_all-empty, merges_all-head, merges_all-nothing, merges_all-wider}
 
 module _ {T N I A : Type 0} (integer : Elements T N) (stream : Stream I T N)
@@ -44,10 +45,6 @@ module _ {T N I A : Type 0} (integer : Elements T N) (stream : Stream I T N)
   abbrev now : Inputs T I
   now = inputs_of t.inputs
 
-  -- No range is due any more.
-  none-due : (place : ℕ) → is_at m.used place ≡ false
-  none-due place = rw filled.none refl
-
   -- The draw made few comparisons.
   few-made : (made : ℕ) → made ≤ m.heads.comparisons + closing_bound m.heads
       → made ≤ s.inputs.heads.comparisons + comparison_bound (length s.inputs.streams.items)
@@ -61,13 +58,20 @@ module _ {T N I A : Type 0} (integer : Elements T N) (stream : Stream I T N)
     abbrev run : Interval
     run = run_of_head rank head
 
-    -- No start of a head's range was reported.
-    unstarted : All IsUnstarted (head ∷ t.inputs.heads.heads)
-    unstarted = All-permutation IsUnstarted m.heads.heads (head ∷ t.inputs.heads.heads)
-        takes.taken.kept (filled.unstarted ready.unstarted)
+    -- The start of the head's range was not reported.
+    unstarted : head.started ≡ false
+    unstarted = sym (ap has_begun takes.taken.was) ∙ filled.begun head.input
+        ∙ ready.unstarted head.input
+
+    -- Nor was that of a head that is left.
+    others-unstarted : (place : ℕ) → has_begun (head_of t.inputs.heads.heads place) ≡ false
+    others-unstarted = at-place (λ place. has_begun (head_of t.inputs.heads.heads place) ≡ false)
+        head.input (ap has_begun takes.taken.leaves.here)
+        (λ place differs. ap has_begun (takes.taken.leaves.others place differs)
+        ∙ filled.begun place ∙ ready.unstarted place)
 
     -- A head that does not come before another starts no earlier.
-    starts-later : (each : Head T) → IsUnstarted each → IsUnstarted head
+    starts-later : (each : Head T) → each.started ≡ false → head.started ≡ false
         → IsFalse (comes_before (key_of rank each) (key_of rank head))
         → run.first ≤ rank each.start
     starts-later each first second later = elim (true_or_false (nat_lt (rank each.start) run.first)) [
@@ -82,14 +86,19 @@ module _ {T N I A : Type 0} (integer : Elements T N) (stream : Stream I T N)
       | inr most ↦ let bound = ltb-false (rank each.start) run.first most in omega (arith, bound)
     ]
 
+    -- The same for each option of a head.
+    later-by : (found : Option (Head T)) (place : ℕ) → has_begun found ≡ false
+        → IfSome found (λ each. (each.input ≡ place)
+        × IsFalse (comes_before (key_of rank each) (key_of rank head)))
+        → IfSome found (λ each. run.first ≤ rank each.start)
+    later-by None place not later = tt
+    later-by (Some each) place not later = starts-later each not unstarted later.1
+
     -- No head that is left starts earlier.
-    least : All (λ (each : Head T). run.first ≤ rank each.start) t.inputs.heads.heads
-    least = All-both IsUnstarted
-        (λ (each : Head T). IsFalse (comes_before (key_of rank each) (key_of rank head)))
-        (λ (each : Head T). run.first ≤ rank each.start)
-        (λ each first later. starts-later each first
-        (All-head IsUnstarted head t.inputs.heads.heads unstarted) later) t.inputs.heads.heads
-        (All-tail IsUnstarted head t.inputs.heads.heads unstarted) takes.taken.least
+    least : (place : ℕ) → IfSome (head_of t.inputs.heads.heads place)
+        (λ each. run.first ≤ rank each.start)
+    least place = later-by (head_of t.inputs.heads.heads place) place (others-unstarted place)
+        (takes.taken.least place)
 
     -- The head's input gives the range.
     gives-here : GivesFrom (input_at integer stream before head.input) run
@@ -107,8 +116,7 @@ module _ {T N I A : Type 0} (integer : Elements T N) (stream : Stream I T N)
     spares-others : (other : ℕ) → ¬ (other ≡ head.input)
         → Spares (input_at integer stream before other) run (input_at integer stream now other)
     spares-others other differs =
-        let spares = leaves-others_spared (taken-loses filled takes) least
-        (λ place apart. none-due place) other differs in
+        let spares = taken-others_spared filled takes least other differs in
         record {
           uses = uses-then (input_at integer stream before other)
               (input_at integer stream middle other) (input_at integer stream now other) [] []
@@ -139,28 +147,25 @@ module _ {T N I A : Type 0} (integer : Elements T N) (stream : Stream I T N)
         (gives_of-uses gives-here.uses)
         (λ other less differs. gives_of-uses (spares-others other differs).uses)
         (λ place less. ready.drawn.inputs.sorted place)
-        (λ place less. leaves-starts (taken-loses filled takes) least
-        (λ other differs. none-due other) place)
+        (λ place less. taken-starts filled takes least place)
         rest (rw long at may)
 
     -- The merge is ready again.
     pub head-ready : KMergeReady integer stream t
     head-ready = record {
       drawn = taken-ready filled takes;
-      unstarted = All-tail IsUnstarted head t.inputs.heads.heads unstarted;
+      unstarted = others-unstarted;
     }
 
     -- At least one range fewer is left.
-    pub head-less : IsFinite (inputs_left integer stream before)
-        → IsFinite (inputs_left integer stream now)
-        × (size (inputs_left integer stream now) < size (inputs_left integer stream before))
+    pub head-less : IsFinite (inputs_left integer stream 1 before)
+        → IsFinite (inputs_left integer stream 1 now)
+        × (size (inputs_left integer stream 1 now) < size (inputs_left integer stream 1 before))
     head-less finite =
-        let refilled = filled.left finite in
-        let same = taken-left filled takes in
-        let fewer = taken-fewer filled takes in (
-          subst (λ each. IsFinite each) (sym same) refilled.0,
-          omega (arith, refilled.1, fewer, ap (λ each. size each) same),
-        )
+        let refilled = filled.left 1 finite in
+        let taken = taken-fewer filled takes 1 refilled.0 in
+        let one = ap (λ each. cond {A = ℕ} each 1 1) unstarted in
+        (taken.0, omega (arith, refilled.1, taken.1, one))
 
     -- This is a draw of the merge that returns the range.
     pub head-known : (range : RangeInclusive T) → interval_of rank range ≡ run
@@ -183,7 +188,7 @@ module _ {T N I A : Type 0} (integer : Elements T N) (stream : Stream I T N)
     -- The draw makes progress.
     pub head-goes : (range : RangeInclusive T)
         → MakesProgress (KMergeReady {A = A} integer stream)
-        (λ each. inputs_left integer stream (inputs_of each.inputs)) s (Some range) t
+        (λ each. inputs_left integer stream 1 (inputs_of each.inputs)) s (Some range) t
     head-goes range = record {
       on = λ finite. let less = head-less finite in (head-ready, less.0, less.1);
       keeps = head-ready;
@@ -196,7 +201,7 @@ module _ {T N I A : Type 0} (integer : Elements T N) (stream : Stream I T N)
     none-again : KMergeReady integer stream t
     none-again = record {
       drawn = none-ready filled none;
-      unstarted = rw none.new (All-nil IsUnstarted);
+      unstarted = λ place. ap has_begun (none.new.none place);
     }
 
     -- This is a draw of the merge that returns `None`.
@@ -222,18 +227,30 @@ module _ {T N I A : Type 0} (integer : Elements T N) (stream : Stream I T N)
       };
     }
 
+    -- The draw makes progress.
+    pub none-goes : MakesProgress {A = RangeInclusive T} (KMergeReady {A = A} integer stream)
+        (λ each. inputs_left integer stream 1 (inputs_of each.inputs)) s None t
+    none-goes = record {
+      on = λ finite. tt;
+      keeps = tt;
+      rests = λ finite. inputs-finite integer stream laws.sorted 1 now none-again.drawn.inputs;
+    }
+
 -- ---- a merge that was just built
 module _ {T N I A : Type 0} (integer : Elements T N) (stream : Stream I T N) (streams : List I)
     (s : KMerge T I A N) (begun : IsBegunOf integer stream streams s.inputs) where
   -- It merges the streams.
-  pub begun-made : MakesKMerge integer stream streams s
+  pub begun-made : BeginsKMerge integer stream (kmerge integer stream) streams s
   begun-made = record {
-    gives = λ runs may. merges_all-wider integer.value_count (length streams)
-        (may_give_at stream.may_give streams)
-        (λ place. gives_of (kmerge_inputs integer stream s place))
-        (λ place less. (begun.begun place).gives) runs
-        (subst (λ count. merges_all integer.value_count count
-        (λ place. gives_of (kmerge_inputs integer stream s place)) runs) begun.count may);
+    made = record {
+      ready = record { drawn = begun.ready; unstarted = begun.unstarted };
+      gives = λ runs may. merges_all-wider integer.value_count (length streams)
+          (may_give_at stream.may_give streams)
+          (λ place. gives_of (kmerge_inputs integer stream s place))
+          (λ place less. (begun.begun place).gives) runs
+          (subst (λ count. merges_all integer.value_count count
+          (λ place. gives_of (kmerge_inputs integer stream s place)) runs) begun.count may);
+    };
     begun = begun.begun;
     count = begun.count;
   }

@@ -11,7 +11,7 @@ use Rattle.rsb_integer.specs.declared.integer.Integer.{Ghosts as Elements}
 use Rattle.rsb_streams.specs.Lookahead.{with_held_ranges, if_same, AreWithin, Input, Sameness}
 use Rattle.rsb_streams.specs.NotIter.{not_iter, PassesOver}
 use Rattle.rsb_streams.specs.PutBack.{held_list, IsFresh}
-use Rattle.rsb_streams.specs.Results.{MakesComplement}
+use Rattle.rsb_streams.specs.Results.{MakesComplementUndrawn}
 use Rattle.rsb_streams.specs.Stream.{◌⊆◌, joined_runs, runs_by, Outcomes}
 use Rattle.rsb_streams.specs.UnionIter.{joined_inputs, unless_ended}
 use Rattle.rsb_streams.specs.declared.draw.Draw.{Ghosts as Stream}
@@ -19,15 +19,13 @@ use Rattle.rsb_streams.specs.declared.not_iter.NotIter.{NotIter}
 use Rattle.rsb_streams.specs.declared.union_iter.UnionIter.{UnionIter}
 use Rattle.rsb_streams.proofs.lemmas.calling.Results.{runs_by-within}
 use Rattle.rsb_streams.proofs.lemmas.lookahead.EachCall.{from-one, uses-ended, uses-nothing, uses-then}
-use Rattle.rsb_many.specs.Drawn.{inputs_of}
-use Rattle.rsb_many.specs.Inputs.{input_at}
 use Rattle.rsb_many.specs.KMerge.{kmerge, MakesKMerge}
-use Rattle.rsb_many.specs.Many.{gives_of, may_give_at, runs_by_all, AreWithinSome, HoldOneAtMost, IsBegun, UsesWithin}
-use Rattle.rsb_many.specs.MultiwayResults.{AreComplements}
+use Rattle.rsb_many.specs.Many.{may_give_at, runs_by_all, AreWithinSome, HoldOneAtMost, IsBegun, UsesWithin}
+use Rattle.rsb_many.specs.MultiwayBegun.{AreComplements}
 use Rattle.rsb_many.specs.MultiwayUnion.{multiway_union, multiway_union_inputs}
 use Rattle.rsb_many.specs.declared.kmerge.KMerge.{KMerge}
 use Rattle.rsb_many.specs.declared.operation_results.multiway_union.MultiwayUnion.{MultiwayUnion}
-use Rattle.rsb_many.proofs.lemmas.merging.Sets.{complement-of_complements, joined-merges_all, runs_by_all-wider}
+use Rattle.rsb_many.proofs.lemmas.merging.Sets.{complement-of_complements, joined-merges_all}
 
 -- ---- a union that was just built
 
@@ -54,21 +52,16 @@ joins-begun same integer inputs may_give below s fresh begun from place =
     (subst (λ each. IsBegun (may_give place) (inputs each place)) (sym fresh.source) (begun place))
 
 module _ {T N I A : Type 0} (integer : Elements T N) (stream : Stream I T N) (streams : List I)
-    (merge : KMerge T I A N) (begins : MakesKMerge integer stream streams merge) where
-  open integer use {value_count as n}
+    (merge : KMerge T I A N) (made : MakesKMerge integer stream (kmerge integer stream) streams merge)
+  where
+    open integer use {value_count as n}
 
-  -- The joined merge gives only runs of what lies in some of the streams.
-  pub begins-gives : joined_runs n ((kmerge integer stream).may_give merge)
-      ⊆ runs_by_all n any_of (length streams) (may_give_at stream.may_give streams)
-  begins-gives runs may =
-      let inputs = inputs_of merge.inputs in
-      subst (λ count. runs_by_all n any_of count (may_give_at stream.may_give streams) runs)
-      begins.count
-      (runs_by_all-wider n (length inputs.streams) any_of
-      (λ place. gives_of (input_at integer stream inputs place))
-      (may_give_at stream.may_give streams) (λ place less. (begins.begun place).gives) runs
-      (joined-merges_all n (length inputs.streams)
-      (λ place. gives_of (input_at integer stream inputs place)) runs may))
+    -- The joined merge gives only runs of what lies in some of the streams.
+    pub joins-gives : joined_runs n ((kmerge integer stream).may_give merge)
+        ⊆ runs_by_all n any_of (length streams) (may_give_at stream.may_give streams)
+    joins-gives runs may = joined-merges_all n (length streams)
+        (may_give_at stream.may_give streams) runs
+        (λ nothing. may (λ given at all. nothing given (made.gives given at) all))
 
 -- ---- complements
 
@@ -78,7 +71,7 @@ module _ {T N I : Type 0} (integer : Elements T N) (stream : Stream I T N) where
   -- The lists still match if one more stream and its complement are added at their ends.
   pub AreComplements-more : (streams : List I) (gaps : List (NotIter T I)) (of : I)
       (gap : NotIter T I) → AreComplements integer stream streams gaps
-      → MakesComplement integer stream (not_iter integer stream) of gap
+      → MakesComplementUndrawn integer stream (not_iter integer stream) of gap
       → AreComplements integer stream (streams ++ of ∷ []) (gaps ++ gap ∷ [])
   AreComplements-more [] [] of gap are made = (made, tt)
   AreComplements-more [] (other ∷ gaps) of gap are made = absurd are
@@ -107,7 +100,7 @@ module _ {T N I : Type 0} (integer : Elements T N) (stream : Stream I T N) where
   complements-at [] [] all place less = absurd (omega (arith, less))
   complements-at [] (gap ∷ gaps) all place less = absurd all
   complements-at (of ∷ streams) [] all place less = absurd all
-  complements-at (of ∷ streams) (gap ∷ gaps) all zero less = all.0.gives
+  complements-at (of ∷ streams) (gap ∷ gaps) all zero less = all.0.made.gives
   complements-at (of ∷ streams) (gap ∷ gaps) all (suc place) less =
       complements-at streams gaps all.1 place (omega (arith, less))
 

@@ -5,7 +5,7 @@ use Rattle.rsb_integer.specs.Runs.{Interval, HasRanks}
 use Rattle.rsb_integer.specs.Selection.{at_least}
 use Rattle.rsb_integer.proofs.lemmas.RunCount.{runs-at_least, HaveRanks}
 use Rattle.rsb_streams.specs.Stream.{◌⊆◌, just, Outcomes}
-use Rattle.rsb_streams.specs.StreamLaws.{settled_le}
+use Rattle.rsb_streams.specs.laws.Stream.{settled_le}
 use Rattle.rsb_streams.specs.Touching.{IsTouchingFrom, IsTouchingIn}
 use Rattle.rsb_many.specs.Many.{may_give_at, runs_by_all}
 use Rattle.rsb_many.specs.MultiwayAtLeast.{GivesRunsOfAllAtMost}
@@ -16,7 +16,7 @@ use Rattle.rsb_many.proofs.lemmas.events.ByDepth.{all-touching}
 have-ranks : (n low : ℕ) (runs : List Interval) → IsTouchingFrom low runs → All HasRanks runs
 have-ranks n low [] touching = All-nil HasRanks
 have-ranks n low (run ∷ runs) touching =
-    All-cons HasRanks run runs touching.1 (have-ranks n (run.last + 1) runs touching.2)
+    All-cons HasRanks run runs touching.in_order (have-ranks n (run.last + 1) runs touching.rest)
 
 -- If the lists of the streams are touching, at most as many runs are given as in all lists
 -- together.
@@ -32,7 +32,8 @@ few-runs n least may_give streams touching positive given gives runs may = λ no
       are,
       runs-at_least n least lists runs positive
           (All-weaker (IsTouchingIn n) (HaveRanks n)
-          (λ own lies. (have-ranks n 0 own lies.0, lies.1)) lists
+          (λ own lies. record { non_empty = have-ranks n 0 own lies.spaced; within = lies.within })
+          lists
           (all-touching n (length streams) (may_give_at may_give streams) touching lists each)) are,
     ))
 

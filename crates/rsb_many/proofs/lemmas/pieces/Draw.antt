@@ -15,9 +15,10 @@ use Rattle.rsb_integer.proofs.lemmas.Members.{members-cons}
 use Rattle.rsb_streams.specs.OddPieces.{ArePieces}
 use Rattle.rsb_streams.specs.PutBack.{held_list}
 use Rattle.rsb_streams.specs.Stream.{◌⊆◌, Outcomes}
-use Rattle.rsb_streams.specs.StreamLaws.{settled_le, settled_lt}
+use Rattle.rsb_streams.specs.laws.Stream.{settled_le, settled_lt}
 use Rattle.rsb_streams.specs.declared.draw.Draw.{Ghosts as Stream}
 use Rattle.rsb_streams.proofs.lemmas.odd.Ranks.{no-pieces}
+use Rattle.rsb_many.specs.Heads.{head_of}
 use Rattle.rsb_many.specs.MultiwaySweep.{events_left, stream_count, sweep_may_give, SweepReady, Sweeps}
 use Rattle.rsb_many.specs.Rule.{crosses, crossing_events, depth_after, end_count, start_count, CanPass, IsDepth}
 use Rattle.rsb_many.specs.Sweep.{event_of, End, Event, Start}
@@ -26,6 +27,7 @@ use Rattle.rsb_many.specs.declared.multiway_sweep.MultiwaySweep.{MultiwaySweep}
 use Rattle.rsb_many.specs.declared.sweep_event.SweepEvent.{SweepEvent}
 use Rattle.rsb_many.specs.declared.sweep_pieces.Rule.{Rule}
 use Rattle.rsb_many.specs.declared.sweep_pieces.SweepPieces.{SweepPieces}
+use Rattle.rsb_many.proofs.lemmas.inputs.OneInput.{held-short}
 use Rattle.rsb_many.proofs.lemmas.events.ByDepth.{crossing-edges, crossing-next, crossing-none}
 use Rattle.rsb_many.proofs.lemmas.events.Depths.{some-depth, EndsOneMore}
 use Rattle.rsb_many.proofs.lemmas.events.Edges.{edge-ended, edges-lower, low-next, pieces-next, settled-event, start-next}
@@ -149,7 +151,12 @@ settled-pass depth (End last input) holds = settled_le 1 depth holds
 last-piece : (n start last : ℕ) → start < n → last + 1 ≡ n
     → ArePieces n (odd_past (start ∷ [])) (record { first = start; last = last } ∷ [])
 last-piece n start last inside is = record {
-  sorted = (omega arith, omega (arith, inside, is), omega (arith, is), tt);
+  sorted = record {
+    starts = omega arith;
+    in_order = omega (arith, inside, is);
+    in_type = omega (arith, is);
+    rest = tt;
+  };
   same = λ rank below.
       members-cons (record { first = start; last = last }) [] rank
       ∙ to_end rank below;
@@ -202,7 +209,7 @@ module _ {T N I A : Type 0} (integer : Elements T N) (stream : Stream I T N) whe
     ready = ready undone;
     same = λ pieces may. may;
     passed = passes-none (telling entry)
-        (λ place. let one = (ready undone).sweep.drawn.inputs.one place in omega (arith, one));
+        (λ place. held-short integer.rank (head_of entry.sweep.inputs.heads.heads place));
     nearer = omega arith;
   }
 

@@ -12,9 +12,9 @@ use Rattle.rsb_streams.specs.Stream.{◌⊆◌, joined_runs}
 use Rattle.rsb_streams.specs.UnionIter.{unless_ended}
 use Rattle.rsb_streams.specs.declared.draw.Draw.{Ghosts as Stream}
 use Rattle.rsb_streams.specs.declared.union_iter.UnionIter.{UnionIter}
-use Rattle.rsb_many.specs.JoinedPieces.{joined_pieces, joined_telling, pieces_union, JoinedReady, MakesJoined}
+use Rattle.rsb_many.specs.JoinedPieces.{joined_pieces, joined_telling, pieces_union, BeginsJoined, JoinedReady}
 use Rattle.rsb_many.specs.Many.{may_give_at, HoldOneAtMost, IsBegun}
-use Rattle.rsb_many.specs.MultiwaySweep.{sweep_inputs, sweep_may_give, SweepsOver}
+use Rattle.rsb_many.specs.MultiwaySweep.{sweep_inputs, sweep_may_give, BeginsSweep}
 use Rattle.rsb_many.specs.Rule.{first_edge}
 use Rattle.rsb_many.specs.SweepPieces.{edges_of, pieces_may_give, pieces_telling, sweep_pieces, all_ended, unless_all_ended, HasEdgesFrom, PassesSome, PiecesReady, Telling}
 use Rattle.rsb_many.specs.declared.multiway_sweep.MultiwaySweep.{MultiwaySweep}
@@ -117,7 +117,7 @@ module _ {T N I A : Type 0} (integer : Elements T N) (stream : Stream I T N) whe
   module _ (sweep : MultiwaySweep T I A N) (rule : Rule) (pieces : SweepPieces T I A N)
       (of : pieces.sweep ≡ sweep) (by : pieces.rule ≡ rule) (none : pieces.depth ≡ 0)
       (begun : edges_of rank pieces.start ≡ first_edge rule) (undone : pieces.done ≡ false)
-      (streams : List I) (over : SweepsOver integer stream streams sweep) where
+      (streams : List I) (over : BeginsSweep integer stream streams sweep) where
     -- The pieces of the sweep before any range has started.
     abbrev begins : SweepPieces T I A N
     begins = record {
@@ -154,9 +154,10 @@ module _ {T N I A : Type 0} (integer : Elements T N) (stream : Stream I T N) whe
       edges = λ events may. subst (λ low. HasEdgesFrom n low events)
           (sym (first-low rank rule pieces.start begun))
           (some-edges n (length streams) (may_give_at stream.may_give streams) over.touching events
-          (over.gives events may));
+          (over.made.gives events may));
       deep = λ events may. some-none_deep n (length streams)
-          (may_give_at stream.may_give streams) over.touching events (over.gives events may);
+          (may_give_at stream.may_give streams) over.touching events
+          (over.made.gives events may);
     })
 
     module _ (made : UnionIter T (SweepPieces T I A N)) (new : IsFresh pieces made.iter) where
@@ -183,14 +184,14 @@ module _ {T N I A : Type 0} (integer : Elements T N) (stream : Stream I T N) whe
       pub joined-made : (pieces_union {A = A} integer stream).can_draw made
           → (pieces_union {A = A} integer stream).may_give made
           ⊆ joined_runs n (pieces_may_give integer stream pieces)
-          → MakesJoined integer stream rule streams made
+          → BeginsJoined integer stream rule streams made
       joined-made ready gives = record {
         ready = joined-ready ready;
         gives = λ runs may. joined-by_depth n (length streams)
             (may_give_at stream.may_give streams) over.touching rank rule pieces.start
-            (sweep_may_give integer stream sweep) begun over.gives runs
+            (sweep_may_give integer stream sweep) begun over.made.gives runs
             (subst (λ each. joined_runs n (pieces_may_give integer stream each) runs) same
             (gives runs may));
-        new = λ place. as-inputs (IsBegun (may_give_at stream.may_give streams place)) place
+        begun = λ place. as-inputs (IsBegun (may_give_at stream.may_give streams place)) place
             (over.begun place);
       }

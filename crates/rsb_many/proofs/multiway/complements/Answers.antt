@@ -7,7 +7,7 @@ use Rattle.std.specs.Iterator.Runs.{EachRunFrom}
 use Rattle.std.specs.Prelude.{Option, Some}
 use Rattle.std.proofs.lemmas.Result.{IfOk-from_err}
 use Rattle.rsb_streams.specs.NotIter.{not_iter}
-use Rattle.rsb_many.specs.MultiwayResults.{AreComplements}
+use Rattle.rsb_many.specs.MultiwayBegun.{AreComplements}
 use Rattle.rsb_many.proofs.lemmas.inputs.HandedIn.{ended-run}
 use Rattle.rsb_many.proofs.lemmas.merging.Operations.{AreComplements-more}
 use Rattle.rsb_many.proofs.multiway.complements.Goals as goal
@@ -32,7 +32,7 @@ loop-stream-preserved g c =
           c.loop-stream.invariant.ready c.complement.ensures.made.ready;
       made = AreComplements-more g.T.Integer g.I.Draw c.loop-stream.yielded c.loop-stream.gaps.items
           c.in-Some.stream c.complement.result c.loop-stream.invariant.made
-          c.complement.ensures.made;
+          (record { made = c.complement.ensures.made; undrawn = c.complement.ensures.undrawn });
     })
 
 -- The complements are those of the streams that were passed.

@@ -1,6 +1,6 @@
 use Rattle.std.proofs.Common.{All}
 use Rattle.rsb_streams.specs.NotIter.{not_iter}
-use Rattle.rsb_many.specs.MultiwayResults.{AreComplements}
+use Rattle.rsb_many.specs.MultiwayBegun.{AreComplements}
 use Rattle.rsb_many.proofs.multiway.complements.Given as goal
 
 -- The complements are those of the streams that came so far, and they are ready.

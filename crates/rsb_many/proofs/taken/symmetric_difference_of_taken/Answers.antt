@@ -1,4 +1,5 @@
 use Rattle.std.proofs.lemmas.Result.{IfOk-at_ok, IfOk-from_err, IfOk-weaker}
+use Rattle.rsb_many.specs.MultiwayBegun.{BeginsSymmetricDifference}
 use Rattle.rsb_many.specs.MultiwayResults.{MakesMultiwaySymmetricDifference}
 use Rattle.rsb_many.specs.MultiwaySymmetricDifference.{multiway_symmetric_difference}
 use Rattle.rsb_many.proofs.lemmas.inputs.GivenList.{given-each, given-list, taken_stream}
@@ -14,12 +15,26 @@ returns-clause-made g c =
     given-list streams gave.0 (λ each. MakesMultiwaySymmetricDifference g.T.Integer of made each given)
     gave.1.0 gave.1.3 gave.2) c.symmetric_difference.ensures.made)
 
+-- It draws nothing more from them.
+pub returns-clause-begun : goal.returns-clause-begun
+returns-clause-begun g c =
+    let streams = c.in_ok-taken.field-0.items in
+    let of = taken_stream g.T.Integer in
+    let made = multiway_symmetric_difference g.T.Integer of in
+    rw c.in_ok-taken.was (IfOk-weaker c.symmetric_difference.result _ _ (λ given gave.
+    given-list streams gave.0 (λ each. BeginsSymmetricDifference g.T.Integer of made each given)
+    gave.1.0 gave.1.3 gave.2) c.symmetric_difference.ensures.begun)
+
 pub returns-in_err-taken-clause-ready : goal.returns-in_err-taken-clause-ready
 returns-in_err-taken-clause-ready g c =
     IfOk-from_err c.from_residual.result _ c.from_residual.ensures.0
 
 pub returns-in_err-taken-clause-made : goal.returns-in_err-taken-clause-made
 returns-in_err-taken-clause-made g c =
+    IfOk-from_err c.from_residual.result _ c.from_residual.ensures.0
+
+pub returns-in_err-taken-clause-begun : goal.returns-in_err-taken-clause-begun
+returns-in_err-taken-clause-begun g c =
     IfOk-from_err c.from_residual.result _ c.from_residual.ensures.0
 
 pub symmetric_difference-requires-clause-ends : goal.symmetric_difference-requires-clause-ends

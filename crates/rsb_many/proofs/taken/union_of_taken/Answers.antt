@@ -1,4 +1,5 @@
 use Rattle.std.proofs.lemmas.Result.{IfOk-at_ok, IfOk-from_err, IfOk-weaker}
+use Rattle.rsb_many.specs.MultiwayBegun.{BeginsUnion}
 use Rattle.rsb_many.specs.MultiwayResults.{MakesMultiwayUnion}
 use Rattle.rsb_many.specs.MultiwayUnion.{multiway_union}
 use Rattle.rsb_many.proofs.lemmas.inputs.GivenList.{given-each, given-list, taken_stream}
@@ -14,12 +15,26 @@ returns-clause-made g c =
     given-list streams gave.0 (λ each. MakesMultiwayUnion g.T.Integer of made each given)
     gave.1.0 gave.1.3 gave.2) c.union.ensures.made)
 
+-- It draws nothing more from them.
+pub returns-clause-begun : goal.returns-clause-begun
+returns-clause-begun g c =
+    let streams = c.in_ok-taken.field-0.items in
+    let of = taken_stream g.T.Integer in
+    let made = multiway_union g.T.Integer of in
+    rw c.in_ok-taken.was (IfOk-weaker c.union.result _ _ (λ given gave.
+    given-list streams gave.0 (λ each. BeginsUnion g.T.Integer of made each given)
+    gave.1.0 gave.1.3 gave.2) c.union.ensures.begun)
+
 pub returns-in_err-taken-clause-ready : goal.returns-in_err-taken-clause-ready
 returns-in_err-taken-clause-ready g c =
     IfOk-from_err c.from_residual.result _ c.from_residual.ensures.0
 
 pub returns-in_err-taken-clause-made : goal.returns-in_err-taken-clause-made
 returns-in_err-taken-clause-made g c =
+    IfOk-from_err c.from_residual.result _ c.from_residual.ensures.0
+
+pub returns-in_err-taken-clause-begun : goal.returns-in_err-taken-clause-begun
+returns-in_err-taken-clause-begun g c =
     IfOk-from_err c.from_residual.result _ c.from_residual.ensures.0
 
 pub union-requires-clause-ends : goal.union-requires-clause-ends

@@ -31,7 +31,8 @@ returns-in-Some-clause-draws g c = record {
   call = c.in-Some.ensures.steps;
   goes = c.in-Some.ensures.goes;
   stands = refl;
-  kept = c.push_range.ensures.kept;
+  here = c.push_range.ensures.heads.here;
+  others = c.push_range.ensures.heads.others;
 }
 
 pub returns-in_default-clause-draws : goal.returns-in_default-clause-draws
@@ -44,7 +45,8 @@ returns-in_default-clause-draws g c = record {
   call = c.in_default.ensures.steps;
   goes = c.in_default.ensures.goes;
   stands = refl;
-  kept = refl;
+  here = c.requires.none;
+  others = λ other differs. refl;
 }
 
 pub draw-requires : goal.draw-requires
@@ -54,6 +56,9 @@ draw-requires g c = subst (λ each. IfSome each g.I.Draw.can_draw)
 
 pub push_range-requires-clause-room : goal.push_range-requires-clause-room
 push_range-requires-clause-room g c = c.requires.room
+
+pub push_range-requires-clause-none : goal.push_range-requires-clause-none
+push_range-requires-clause-none g c = c.requires.none
 
 pub returns-in-Some-clause-used : goal.returns-in-Some-clause-used
 returns-in-Some-clause-used g c = refl
@@ -70,3 +75,6 @@ returns-in-Some-clause-counted g c = c.push_range.ensures.counted
 
 pub returns-in_default-clause-used : goal.returns-in_default-clause-used
 returns-in_default-clause-used g c = refl
+
+pub returns-in-Some-clause-count : goal.returns-in-Some-clause-count
+returns-in-Some-clause-count g c = omega (arith, c.push_range.ensures.count)

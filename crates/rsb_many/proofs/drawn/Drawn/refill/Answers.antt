@@ -14,7 +14,7 @@ pub returns-in-Some : goal.returns-in-Some
 returns-in-Some g c = refills g.T.Integer g.I.Draw (laws g) c.args.self.now c.draw_from.new.self
     c.in-Some.place c.requires (sym c.take.ensures.value ∙ c.in-Some.is)
     (c.draw_from.ensures.used ∙ c.take.ensures.after) c.draw_from.ensures.room
-    c.draw_from.ensures.draws c.draw_from.ensures.compared c.draw_from.ensures.counted
+    c.draw_from.ensures.count c.draw_from.ensures.draws c.draw_from.ensures.compared c.draw_from.ensures.counted
 
 pub returns-in_default : goal.returns-in_default
 returns-in_default g c = refills-none g.T.Integer g.I.Draw (laws g) c.args.self.now

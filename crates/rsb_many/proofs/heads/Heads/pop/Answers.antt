@@ -1,11 +1,14 @@
 use Rattle.std.proofs.Common.{◌≡◌, ◌+◌, ◌<◌, ◌≤◌, false, [], ◌∷◌, drop, length, sym, ap, subst, ◌∙◌, arith, IsPermutation}
 use Rattle.std.proofs.lemmas.Bool.{eqb-false, eqb-true}
 use Rattle.std.proofs.lemmas.List.{nil_from_length}
-use Rattle.std.proofs.lemmas.List.Sorted.{length_permutation, IsPermutation-refl}
-use Rattle.std.specs.Prelude.{IsFalse}
+use Rattle.std.proofs.lemmas.List.Sorted.{IsPermutation-refl}
+use Rattle.std.specs.Prelude.{IsFalse, None}
 use Rattle.std.specs.Vec.{vec_len}
-use Rattle.rsb_many.specs.Heads.{closing_bound, counted_heads, HasValues}
+use Rattle.rsb_many.specs.Heads.{closing_bound, head_of, key_of, HasValues}
+use Rattle.rsb_many.specs.HeapOrder.{counted_heads, HasOneOfEach}
+use Rattle.rsb_many.specs.Keys.{comes_before}
 use Rattle.rsb_many.proofs.lemmas.heap.Heads.{fact-at, first-drop, first-least_of}
+use Rattle.rsb_many.proofs.lemmas.heap.HeadsIn.{all-in, first-in, one-fewer, others-in}
 use Rattle.rsb_many.proofs.heads.Heads.pop.Given.{Over}
 use Rattle.rsb_many.proofs.heads.Heads.pop.Goals as goal
 
@@ -20,9 +23,13 @@ returns-then-is_empty-clause-taken g c =
     subst (λ kept. IsFalse kept.is_open) (sym c.self.view_is) c.close.ensures.closed in
     let now : c.close.new.self.heads ≡ [] = sym (ap (λ kept. kept.heads) c.self.view_is)
     ∙ ap (λ is_open. counted_heads is_open items) closed ∙ nothing in
-    let long = length_permutation c.args.self.now.heads c.close.new.self.heads c.close.ensures.kept in
-    let same = ap (λ heads. length heads) now in
-    (nil_from_length c.args.self.now.heads (omega (arith, long, same)), now)
+    let same = ap (λ heads. length heads) now in (
+      record {
+        none = λ input. sym (c.close.ensures.heads input) ∙ ap (λ heads. head_of heads input) now;
+        count = sym c.close.ensures.count ∙ same;
+      },
+      record { none = λ input. ap (λ heads. head_of heads input) now; count = same },
+    )
 
 -- There is a head.
 some-there : (g : Over) (c : goal.After-result-1 g) → 0 < length c.self.inside.list.heads.items
@@ -37,12 +44,27 @@ first-there : (g : Over) (c : goal.After-result-1 g)
 first-there g c = first-drop g.T.Integer.rank c.self.inside.list.heads.items c.index.result.now
     (some-there g c) c.index.ensures
 
+-- The place was closed.
+closed-there : (g : Over) (c : goal.After-result-1 g) → c.self.inside.is_open ≡ false
+closed-there g c = subst (λ kept. IsFalse kept.is_open) (sym c.self.view_is) c.close.ensures.closed
+
+-- So no other head belongs to its input.
+one-there : (g : Over) (c : goal.After-result-1 g)
+    → HasOneOfEach (drop 1 c.self.inside.list.heads.items)
+    × (head_of (drop 1 c.self.inside.list.heads.items) c.index.result.now.input ≡ None)
+one-there g c =
+    let items = c.self.inside.list.heads.items in
+    one-fewer c.index.result.now (drop 1 items) (subst HasOneOfEach (first-there g c)
+    (subst (λ is_open. HasOneOfEach (counted_heads is_open items)) (closed-there g c)
+    c.self.invariant.one))
+
 -- The list is unchanged, and it is not empty.
 pub invariant_of-self : goal.invariant_of-self
 invariant_of-self g c = record {
   values = c.self.invariant.values;
   order = c.self.invariant.order;
   some = λ yes. some-there g c;
+  one = (one-there g c).0;
 }
 
 -- The head that comes out is the first of a heap.
@@ -51,16 +73,23 @@ returns-clause-taken g c =
     let rank = g.T.Integer.rank in
     let items = c.self.inside.list.heads.items in
     let head = c.index.result.now in
-    let closed : c.self.inside.is_open ≡ false =
-    subst (λ kept. IsFalse kept.is_open) (sym c.self.view_is) c.close.ensures.closed in
-    let now : c.close.new.self.heads ≡ items = sym (ap (λ kept. kept.heads) c.self.view_is)
-    ∙ ap (λ is_open. counted_heads is_open items) closed in
+    let rest = drop 1 items in
+    let now : c.close.new.self.heads ≡ head ∷ rest = sym (ap (λ kept. kept.heads) c.self.view_is)
+    ∙ ap (λ is_open. counted_heads is_open items) (closed-there g c) ∙ first-there g c in
     record {
-      kept = subst (IsPermutation c.args.self.now.heads) (now ∙ first-there g c)
-          c.close.ensures.kept;
-      least = first-least_of rank items (drop 1 items) head c.self.invariant.order
+      was = sym (c.close.ensures.heads head.input) ∙ ap (λ heads. head_of heads head.input) now
+          ∙ first-in head rest;
+      leaves = record {
+        here = (one-there g c).1;
+        others = λ other differs. sym (others-in head rest other differs)
+            ∙ ap (λ heads. head_of heads other) (sym now) ∙ c.close.ensures.heads other;
+      };
+      count = sym c.close.ensures.count ∙ ap (λ heads. length heads) now ∙ omega arith;
+      least = λ input. all-in input
+          (λ other. IsFalse (comes_before (key_of rank other) (key_of rank head))) rest
+          (first-least_of rank items rest head c.self.invariant.order
           (some-there g c) c.index.ensures
-          (subst (IsPermutation items) (first-there g c) (IsPermutation-refl items));
+          (subst (IsPermutation items) (first-there g c) (IsPermutation-refl items)));
     }
 
 -- It has values.

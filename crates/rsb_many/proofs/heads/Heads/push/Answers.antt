@@ -1,9 +1,10 @@
 use Rattle.std.proofs.Common.{◌+◌, ◌*◌, ◌≤◌, ◌∷◌, drop, length, refl, set, sym, subst, arith, IsPermutation}
 use Rattle.std.proofs.lemmas.List.Elements.{All-cons, All-drop}
-use Rattle.std.proofs.lemmas.List.Sorted.{All-permutation, IsPermutation-refl}
-use Rattle.rsb_many.specs.Heads.{binary_digits, counted_heads, HasValues}
-use Rattle.rsb_many.specs.HeapOrder.{IsHeapButLast}
+use Rattle.std.proofs.lemmas.List.Sorted.{length_permutation, All-permutation, IsPermutation-refl}
+use Rattle.rsb_many.specs.Heads.{binary_digits, HasValues}
+use Rattle.rsb_many.specs.HeapOrder.{counted_heads, HasOneOfEach, IsHeapButLast}
 use Rattle.rsb_many.proofs.lemmas.heap.Heads.{filled-heap, filled-kept, pushed-heap, pushed-kept}
+use Rattle.rsb_many.proofs.lemmas.heap.HeadsIn.{pushed-in, pushed-one}
 use Rattle.rsb_many.proofs.heads.Heads.push.Given.{Over}
 use Rattle.rsb_many.proofs.heads.Heads.push.Goals as goal
 
@@ -34,6 +35,16 @@ filled g c =
     filled-kept g.T.Integer.rank old (set old 0 c.args.head) c.sift_down.new.self.heads.items
     c.args.head (c.self.invariant.some c.if-self.true) refl c.sift_down.ensures.kept
 
+-- So the heads are the new one and those that counted before.
+filled-before : (g : Over) (c : goal.After-sift_down g)
+    → IsPermutation (c.args.head ∷ c.args.self.now.heads) c.sift_down.new.self.heads.items
+filled-before g c =
+    let items = c.self.inside.list.heads.items in
+    let new = c.sift_down.new.self.heads.items in
+    subst (λ before. IsPermutation (c.args.head ∷ before.heads) new) c.self.view_is
+    (subst (λ is_open. IsPermutation (c.args.head ∷ counted_heads is_open items) new)
+    (sym c.if-self.true) (filled g c))
+
 pub invariant_of-self : goal.invariant_of-self
 invariant_of-self g c =
     let Fact = HasValues g.T.Integer.rank g.T.Integer.value_count in
@@ -44,15 +55,21 @@ invariant_of-self g c =
           (All-drop Fact 1 old c.self.invariant.values));
       order = c.sift_down.ensures.order;
       some = λ yes. absurd (cc);
+      one = pushed-one c.args.head c.args.self.now.heads c.sift_down.new.self.heads.items
+          (filled-before g c) c.requires.none
+          (subst (λ before. HasOneOfEach before.heads) c.self.view_is c.self.invariant.one);
     }
 
-pub returns-then-self-clause-kept : goal.returns-then-self-clause-kept
-returns-then-self-clause-kept g c =
-    let new = c.sift_down.new.self.heads.items in
-    subst (λ before. IsPermutation (c.args.head ∷ before.heads) new) c.self.view_is
-    (subst (λ is_open. IsPermutation
-    (c.args.head ∷ counted_heads is_open c.self.inside.list.heads.items) new) (sym c.if-self.true)
-    (filled g c))
+pub returns-then-self-clause-heads : goal.returns-then-self-clause-heads
+returns-then-self-clause-heads g c = pushed-in c.args.head c.args.self.now.heads
+    c.sift_down.new.self.heads.items (filled-before g c) c.requires.none
+    (subst (λ before. HasOneOfEach before.heads) c.self.view_is c.self.invariant.one)
+
+pub returns-then-self-clause-count : goal.returns-then-self-clause-count
+returns-then-self-clause-count g c =
+    let long = length_permutation (c.args.head ∷ c.args.self.now.heads)
+    c.sift_down.new.self.heads.items (filled-before g c) in
+    omega (arith, long)
 
 pub returns-then-self-clause-compared : goal.returns-then-self-clause-compared
 returns-then-self-clause-compared g c =
@@ -68,6 +85,16 @@ added : (g : Over) (c : goal.After-sift_up g)
     → IsPermutation (c.args.head ∷ c.self.inside.list.heads.items) c.sift_up.new.self.heads.items
 added g c = pushed-kept g.T.Integer.rank c.self.inside.list.heads.items c.push_reserved.new.self.items
     c.sift_up.new.self.heads.items c.args.head c.push_reserved.ensures.items c.sift_up.ensures.kept
+
+-- So the heads are the new one and those that counted before.
+added-before : (g : Over) (c : goal.After-sift_up g)
+    → IsPermutation (c.args.head ∷ c.args.self.now.heads) c.sift_up.new.self.heads.items
+added-before g c =
+    let items = c.self.inside.list.heads.items in
+    let new = c.sift_up.new.self.heads.items in
+    subst (λ before. IsPermutation (c.args.head ∷ before.heads) new) c.self.view_is
+    (subst (λ is_open. IsPermutation (c.args.head ∷ counted_heads is_open items) new)
+    (sym c.if-self.false) (added g c))
 
 pub sift_up-requires-clause-values : goal.sift_up-requires-clause-values
 sift_up-requires-clause-values g c =
@@ -94,14 +121,21 @@ invariant_of-self-else-self g c =
           (All-cons Fact c.args.head old c.requires.values c.self.invariant.values);
       order = c.sift_up.ensures.order;
       some = λ yes. absurd (let no = c.if-self.false in cc);
+      one = rw c.if-self.false (pushed-one c.args.head c.args.self.now.heads
+          c.sift_up.new.self.heads.items (added-before g c) c.requires.none
+          (subst (λ before. HasOneOfEach before.heads) c.self.view_is c.self.invariant.one));
     }
 
-pub returns-else-self-clause-kept : goal.returns-else-self-clause-kept
-returns-else-self-clause-kept g c =
-    let new = c.sift_up.new.self.heads.items in
-    subst (λ before. IsPermutation (c.args.head ∷ before.heads)
-    (counted_heads c.self.inside.is_open new)) c.self.view_is
-    (rw c.if-self.false (added g c))
+pub returns-else-self-clause-heads : goal.returns-else-self-clause-heads
+returns-else-self-clause-heads g c = rw c.if-self.false (pushed-in c.args.head c.args.self.now.heads
+    c.sift_up.new.self.heads.items (added-before g c) c.requires.none
+    (subst (λ before. HasOneOfEach before.heads) c.self.view_is c.self.invariant.one))
+
+pub returns-else-self-clause-count : goal.returns-else-self-clause-count
+returns-else-self-clause-count g c =
+    let long = length_permutation (c.args.head ∷ c.args.self.now.heads)
+    c.sift_up.new.self.heads.items (added-before g c) in
+    rw c.if-self.false (omega (arith, long))
 
 pub returns-else-self-clause-compared : goal.returns-else-self-clause-compared
 returns-else-self-clause-compared g c =

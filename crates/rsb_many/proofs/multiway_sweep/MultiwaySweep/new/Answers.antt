@@ -1,8 +1,8 @@
 use Rattle.std.proofs.Common.{subst, sym, All}
 use Rattle.std.proofs.lemmas.Result.{IfOk-weaker}
-use Rattle.rsb_many.proofs.lemmas.inputs.HandedIn.{collected-each, collected-run}
+use Rattle.rsb_many.proofs.lemmas.inputs.HandedIn.{collected-each, collected-run, gave-ok}
 use Rattle.rsb_many.proofs.lemmas.inputs.Touching.{canonical-touching}
-use Rattle.rsb_many.specs.MultiwaySweep.{SweepsOver}
+use Rattle.rsb_many.specs.MultiwaySweep.{BeginsSweep, SweepsOver}
 use Rattle.rsb_many.proofs.multiway_sweep.MultiwaySweep.new.Goals as goal
 
 -- A fact about all streams that were passed holds of the streams of the list. Their lists are
@@ -23,12 +23,17 @@ over-requires g c =
 pub returns : goal.returns
 returns g c =
     let ran = c.in_ok-streams.ensures.ran in
+    let begun = IfOk-weaker c.over.result _ _ (λ sweep begun.
+    collected-run g.K.IntoIterator.into_iter_gives g.K.IntoIter.Iterator.next_gives
+    c.args.inputs ran.0 ran.1 ran.2 ran.3
+    (λ streams. BeginsSweep g.T.Integer g.I.Draw streams sweep)
+    (subst (λ streams. BeginsSweep g.T.Integer g.I.Draw streams sweep) ran.4.0 begun))
+    c.over.ensures in
     record {
-      ready = IfOk-weaker c.over.result _ _ (λ sweep over. over.ready) c.over.ensures;
-      made = IfOk-weaker c.over.result _ _ (λ sweep over.
-          collected-run g.K.IntoIterator.into_iter_gives g.K.IntoIter.Iterator.next_gives
-          c.args.inputs ran.0 ran.1 ran.2 ran.3
-          (λ streams. SweepsOver g.T.Integer g.I.Draw streams sweep)
-          (subst (λ streams. SweepsOver g.T.Integer g.I.Draw streams sweep) ran.4.0 over))
-          c.over.ensures;
+      ready = IfOk-weaker c.over.result _ _ (λ sweep begun. begun.ready) c.over.ensures;
+      made = gave-ok g.K.IntoIterator.into_iter_gives g.K.IntoIter.Iterator.next_gives c.args.inputs
+          c.over.result (λ streams sweep. BeginsSweep g.T.Integer g.I.Draw streams sweep)
+          (λ streams sweep. SweepsOver g.T.Integer g.I.Draw streams sweep)
+          (λ streams sweep begins. begins.made) begun;
+      begun = begun;
     }

@@ -1,8 +1,8 @@
 use Rattle.std.proofs.Common.{arith, subst, sym, ◌∙◌}
+use Rattle.std.specs.Iterator.{MakesProgress}
 use Rattle.rsb_many.specs.Drawn.{Refills, TakesHead}
-use Rattle.rsb_many.specs.MultiwaySweep.{Sweeps}
-use Rattle.rsb_many.proofs.lemmas.inputs.HeadLeaves.{taken-fewer}
-use Rattle.rsb_many.proofs.lemmas.events.OneEvent.{end-goes, end-known, none-known, start-goes, start-known}
+use Rattle.rsb_many.specs.MultiwaySweep.{events_left, SweepReady, Sweeps}
+use Rattle.rsb_many.proofs.lemmas.events.OneEvent.{end-goes, end-known, none-goes, none-known, start-goes, start-known}
 use Rattle.rsb_streams.proofs.lemmas.sources.Known.{IsLawful}
 use Rattle.rsb_many.proofs.multiway_sweep.MultiwaySweepIterator.next.Given.{Over}
 use Rattle.rsb_many.proofs.multiway_sweep.MultiwaySweepIterator.next.Goals as goal
@@ -21,6 +21,15 @@ returns-in_err-head-clause-steps g c =
     (none-known g.T.Integer g.I.Draw (laws g) c.args.self.now
     (record { inputs = c.take.new.self }) c.refill.new.self c.requires c.refill.ensures
     c.in_err-head.ensures.taken c.in_err-head.ensures.compared c.in_err-head.ensures.counted)
+
+pub returns-in_err-head-clause-goes : goal.returns-in_err-head-clause-goes
+returns-in_err-head-clause-goes g c =
+    subst (λ item. MakesProgress (SweepReady {A = g.row.A.Denot} g.T.Integer g.I.Draw)
+    (events_left g.T.Integer g.I.Draw) c.args.self.now item (record { inputs = c.take.new.self }))
+    (sym c.from_residual.ensures)
+    (none-goes g.T.Integer g.I.Draw (laws g) c.args.self.now
+    (record { inputs = c.take.new.self }) c.refill.new.self c.requires c.refill.ensures
+    c.in_err-head.ensures.taken)
 
 -- The range of the head ends.
 pub returns-then-is_started-clause-steps : goal.returns-then-is_started-clause-steps
@@ -46,8 +55,7 @@ put_back-requires-clause-room g c =
     let takes : TakesHead g.T.Integer g.I.Draw c.refill.new.self c.in_ok-head.head c.take.new.self =
     c.in_ok-head.ensures.taken in
     let ready = filled.ready in
-    let fewer = taken-fewer filled takes in
-    omega (arith, fewer, ready.room.few, ready.room.room, takes.room)
+    omega (arith, takes.taken.count, ready.room.few, ready.room.room, takes.room)
 
 -- The range of the head starts.
 pub returns-clause-steps : goal.returns-clause-steps

@@ -15,11 +15,11 @@ pub returns-clause-ready : goal.returns-clause-ready
 returns-clause-ready g c = joined-ready g.T.Integer g.I.Draw c.args.sweep c.args.rule
     c.over.result c.over.ensures.sweep c.over.ensures.rule c.over.ensures.depth
     c.over.ensures.start c.over.ensures.done c.requires.0 c.requires.1 c.new.result
-    c.new.ensures.new c.new.ensures.ready
+    c.new.ensures.undrawn c.new.ensures.ready
 
 -- They are what the rule selects from the streams.
-pub returns-clause-made : goal.returns-clause-made
-returns-clause-made g c streams over = joined-made g.T.Integer g.I.Draw c.args.sweep
+pub returns-clause-begun : goal.returns-clause-begun
+returns-clause-begun g c streams over = joined-made g.T.Integer g.I.Draw c.args.sweep
     c.args.rule c.over.result c.over.ensures.sweep c.over.ensures.rule c.over.ensures.depth
-    c.over.ensures.start c.over.ensures.done streams over c.new.result c.new.ensures.new
+    c.over.ensures.start c.over.ensures.done streams over c.new.result c.new.ensures.undrawn
     c.new.ensures.ready c.new.ensures.gives

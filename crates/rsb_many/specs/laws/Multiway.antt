@@ -1,20 +1,20 @@
 -- The laws of the results of operations on any number of streams: each result is canonical.
 use Rattle.rsb_integer.specs.declared.integer.Integer.{Ghosts as Elements}
 use Rattle.rsb_streams.specs.NotIter.{not_iter}
-use Rattle.rsb_streams.specs.NotIterLaws.{not_iter-disjoint}
+use Rattle.rsb_streams.specs.laws.NotIter.{not_iter-disjoint}
 use Rattle.rsb_streams.specs.Rows.{IsDisjoint, IsSorted}
-use Rattle.rsb_streams.specs.StreamLaws.{disjoint-sorted}
-use Rattle.rsb_streams.specs.UnionIterLaws.{union_iter-disjoint}
+use Rattle.rsb_streams.specs.laws.Stream.{disjoint-sorted}
+use Rattle.rsb_streams.specs.laws.UnionIter.{union_iter-disjoint}
 use Rattle.rsb_streams.specs.declared.draw.Draw.{Ghosts as Stream}
 use Rattle.rsb_many.specs.JoinedPieces.{joined_pieces}
 use Rattle.rsb_many.specs.KMerge.{kmerge}
-use Rattle.rsb_many.specs.KMergeLaws.{kmerge-sorted}
+use Rattle.rsb_many.specs.laws.KMerge.{kmerge-sorted}
 use Rattle.rsb_many.specs.MultiwayAtLeast.{multiway_at_least}
 use Rattle.rsb_many.specs.MultiwayIntersection.{left_out, multiway_intersection}
 use Rattle.rsb_many.specs.MultiwaySymmetricDifference.{multiway_symmetric_difference}
 use Rattle.rsb_many.specs.MultiwayUnion.{multiway_union}
 use Rattle.rsb_many.specs.SweepPieces.{sweep_pieces}
-use Rattle.rsb_many.specs.SweepPiecesLaws.{sweep_pieces-sorted}
+use Rattle.rsb_many.specs.laws.SweepPieces.{sweep_pieces-sorted}
 
 -- The union of many streams is canonical.
 pub multiway_union-disjoint : {T N I A : Type 0} (integer : Elements T N) (stream : Stream I T N)

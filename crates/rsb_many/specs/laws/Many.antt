@@ -1,9 +1,9 @@
 -- The law of a merge of any number of streams: its ranges come in the order of their starts.
 use Rattle.std.proofs.Common.{ℕ, zero, suc, ◌<◌, [], refl, arith}
 use Rattle.std.specs.Iterator.{at_most}
-use Rattle.rsb_streams.specs.MergeLaws.{merge-starts, merges-keeps}
+use Rattle.rsb_streams.specs.laws.Merge.{merge-starts, merges-keeps}
 use Rattle.rsb_streams.specs.Stream.{◌⊆◌, merges, HasOutcome, HasSortedStarts, HasSortedStartsFrom, Outcomes}
-use Rattle.rsb_streams.specs.StreamLaws.{settled_sorted}
+use Rattle.rsb_streams.specs.laws.Stream.{settled_sorted}
 use Rattle.rsb_many.specs.Many.{merges_all}
 
 -- If the ranges of two streams come in the order of their starts, none before `low`, so do those of

@@ -4,7 +4,7 @@ use Rattle.rsb_integer.specs.declared.integer.Integer.{Ghosts as Elements}
 use Rattle.rsb_integer.proofs.lemmas.Runs.{runs-canonical, runs-members}
 use Rattle.rsb_streams.specs.Rows.{IsSorted}
 use Rattle.rsb_streams.specs.Stream.{HasSortedStarts, Keeps}
-use Rattle.rsb_streams.specs.StreamLaws.{canonical-sorted, runs-exist, settled_sorted}
+use Rattle.rsb_streams.specs.laws.Stream.{canonical-sorted, runs-exist, settled_sorted}
 use Rattle.rsb_streams.specs.declared.draw.Draw.{Ghosts as Stream}
 use Rattle.rsb_many.specs.Rule.{crossing_events}
 use Rattle.rsb_many.specs.SweepPieces.{edge_of, edges_of, odd_past, pieces_left, pieces_may_give, sweep_pieces, PiecesReady}
@@ -29,7 +29,7 @@ module _ {T N I A : Type 0} (integer : Elements T N) (stream : Stream I T N) whe
         let runs = runs-exist n selected in
         let canonical = runs-canonical n selected runs.0 runs.1 in
         never runs.0 (λ nothing. nothing events may (record {
-          sorted = canonical-sorted n 0 runs.0 canonical.0 canonical.1;
+          sorted = canonical-sorted n 0 runs.0 canonical.apart canonical.within;
           same = runs-members n selected runs.0 runs.1;
         })));
     all = λ pieces may. settled_sorted n 0 pieces

@@ -1,6 +1,7 @@
 -- The law of a merge of any number of streams: its ranges come in the order of their starts.
-use Rattle.std.proofs.Common.{◌≡◌, Bool, true, false, List, [], ◌++◌, length, slice_get, refl, Option, Some, None}
-use Rattle.std.specs.Iterator.{IsFinite}
+use Rattle.std.proofs.Common.{◌≡◌, ℕ, ◌+◌, ◌*◌, Bool, true, false, cond, List, [], ◌++◌, length, slice_get, refl, Option, Some, None}
+use Rattle.std.specs.Iterator.{at_most, IsFinite}
+use Rattle.std.specs.Option.{option_map_or}
 use Rattle.std.specs.Prelude.{IfSome, MatchOption}
 use Rattle.rsb_integer.specs.Runs.{Interval}
 use Rattle.rsb_integer.specs.declared.integer.Integer.{Ghosts as Elements}
@@ -8,11 +9,11 @@ use Rattle.rsb_streams.specs.Rows.{IsSorted}
 use Rattle.rsb_streams.specs.Stream.{outcomes_unless, HasOutcome}
 use Rattle.rsb_streams.specs.declared.draw.Draw.{Ghosts as Stream}
 use Rattle.rsb_many.specs.Drawn.{inputs_of}
-use Rattle.rsb_many.specs.Inputs.{has_ended, input_at, inputs_left, AreReady, Inputs}
-use Rattle.rsb_many.specs.InputsLaws.{left_of-finite}
+use Rattle.rsb_many.specs.Inputs.{has_ended, input_at, inputs_left, left_at, AreReady, Inputs}
+use Rattle.rsb_many.specs.laws.Inputs.{left-finite, sum_below-finite}
 use Rattle.rsb_many.specs.KMerge.{kmerge}
 use Rattle.rsb_many.specs.Many.{gives_of}
-use Rattle.rsb_many.specs.ManyLaws.{merges_all-some, merges_all-starts}
+use Rattle.rsb_many.specs.laws.Many.{merges_all-some, merges_all-starts}
 
 module _ {T N I : Type 0} (integer : Elements T N) (stream : Stream I T N)
     (sorted : IsSorted integer stream) where
@@ -31,15 +32,18 @@ module _ {T N I : Type 0} (integer : Elements T N) (stream : Stream I T N)
 
   -- If an input has a stream, that stream ends.
   ends-by : (found : Option I) → IfSome found stream.can_draw
-      → IfSome found (λ s. IsFinite (stream.draws_left s))
+      → IsFinite (option_map_or stream.draws_left found (at_most 0))
   ends-by None can = tt
   ends-by (Some s) can = (sorted s can).ends
 
-  -- The number of ranges that ready inputs have left is finite.
-  pub inputs-finite : (s : Inputs T I) → AreReady integer stream s
-      → IsFinite (inputs_left integer stream s)
-  inputs-finite s ready = left_of-finite stream.draws_left (has_ended integer stream s) s.streams
-      (λ place going. ends-by (slice_get s.streams place) (ready.can place going))
+  -- The number of items that ready inputs have left is finite.
+  pub inputs-finite : (each : ℕ) (s : Inputs T I) → AreReady integer stream s
+      → IsFinite (inputs_left integer stream each s)
+  inputs-finite each s ready = sum_below-finite (length s.streams) (left_at integer stream each s)
+      (λ place. left-finite (has_ended integer stream s place)
+      (λ left. each * left + option_map_or (λ head. cond head.started 1 each) (s.head_of place) 0)
+      (option_map_or stream.draws_left (slice_get s.streams place) (at_most 0))
+      (λ going. ends-by (slice_get s.streams place) (ready.can place going)))
 
   -- The ranges come in the order of their starts, some list of them may come, and they end.
   pub kmerge-sorted : {A : Type 0} → IsSorted integer (kmerge {A = A} integer stream)
@@ -57,5 +61,5 @@ module _ {T N I : Type 0} (integer : Elements T N) (stream : Stream I T N)
         all = merges_all-starts integer.value_count 0 count
             (λ place. gives_of (input_at integer stream inputs place))
             (λ place less. are.sorted place);
-        ends = inputs-finite inputs are;
+        ends = inputs-finite 1 inputs are;
       }
