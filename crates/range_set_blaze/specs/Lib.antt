@@ -3,18 +3,17 @@
 pub mod Algebra
 pub mod BothEnds
 pub mod Hash
-pub mod HashLaws
 pub mod Joining
 pub mod Lent
 pub mod Multiway
 pub mod Order
-pub mod OrderLaws
 pub mod Ranked
 pub mod Removal
 pub mod RemoveRanges
 pub mod Retain
 pub mod Singles
 pub mod Written
+pub mod laws
 pub use Rattle.rsb_length.specs.SafeLength
 pub use Rattle.rsb_length.specs.UIntPlusOne
 pub use Rattle.rsb_integer.specs.Enumerated
@@ -23,7 +22,6 @@ pub use Rattle.rsb_integer.specs.Rank
 pub use Rattle.rsb_integer.specs.Room
 pub use Rattle.rsb_integer.specs.Runs
 pub use Rattle.rsb_integer.specs.Selection
-pub use Rattle.rsb_range_text.specs.NumberLaws
 pub use Rattle.rsb_range_text.specs.Numbers
 pub use Rattle.rsb_range_text.specs.Text
 pub use Rattle.rsb_storage.specs.FirstFit
@@ -35,10 +33,8 @@ pub use Rattle.rsb_storage.specs.Storage
 pub use Rattle.rsb_storage.specs.Windows
 pub use Rattle.rsb_streams.specs.Adapters
 pub use Rattle.rsb_streams.specs.Ascending
-pub use Rattle.rsb_streams.specs.AscendingLaws
 pub use Rattle.rsb_streams.specs.AssumeSortedStarts
 pub use Rattle.rsb_streams.specs.Calls
-pub use Rattle.rsb_streams.specs.CallsLaws
 pub use Rattle.rsb_streams.specs.CheckSortedDisjoint
 pub use Rattle.rsb_streams.specs.CheckSortedTouching
 pub use Rattle.rsb_streams.specs.Difference
@@ -47,7 +43,6 @@ pub use Rattle.rsb_streams.specs.FillGapsIter
 pub use Rattle.rsb_streams.specs.Intersection
 pub use Rattle.rsb_streams.specs.Items
 pub use Rattle.rsb_streams.specs.Listed
-pub use Rattle.rsb_streams.specs.ListedLaws
 pub use Rattle.rsb_streams.specs.Lookahead
 pub use Rattle.rsb_streams.specs.Merge
 pub use Rattle.rsb_streams.specs.NotIter
@@ -56,11 +51,9 @@ pub use Rattle.rsb_streams.specs.Rows
 pub use Rattle.rsb_streams.specs.RunCount
 pub use Rattle.rsb_streams.specs.SortedStartsInVec
 pub use Rattle.rsb_streams.specs.Stream
-pub use Rattle.rsb_streams.specs.StreamLaws
 pub use Rattle.rsb_streams.specs.Sublists
 pub use Rattle.rsb_streams.specs.SymDiffIter
 pub use Rattle.rsb_streams.specs.Touching
-pub use Rattle.rsb_streams.specs.TouchingLaws
 pub use Rattle.rsb_streams.specs.Union
 pub use Rattle.rsb_streams.specs.UnionIter
 pub use Rattle.rsb_many.specs.DynSortedDisjoint
@@ -68,6 +61,7 @@ pub use Rattle.rsb_many.specs.HandedIn
 pub use Rattle.rsb_many.specs.KMerge
 pub use Rattle.rsb_many.specs.Many
 pub use Rattle.rsb_many.specs.MultiwayAtLeast
+pub use Rattle.rsb_many.specs.MultiwayBegun
 pub use Rattle.rsb_many.specs.MultiwayIntersection
 pub use Rattle.rsb_many.specs.MultiwayResults
 pub use Rattle.rsb_many.specs.MultiwaySweep

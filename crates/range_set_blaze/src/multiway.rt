@@ -1,13 +1,13 @@
 //! Set algebra over any number of sets.
 
 ghost use Rattle.std.proofs.Common.{refl};
-ghost use Rattle.std.specs.Prelude.{◌≡◌, ◌<◌, List, [], ◌∷◌, ◌++◌, map, All, IfOk};
+ghost use Rattle.std.specs.Prelude.{◌≡◌, ◌<◌, List, [], ◌∷◌, ◌++◌, length, map, All, IfOk};
 ghost use Rattle.rsb_integer.specs.Rank.{intervals_of};
 ghost use Rattle.rsb_integer.specs.Runs.{members, Interval, IsCanonicalIn};
 ghost use Rattle.rsb_integer.specs.Selection.{all_of, any_of, at_least, odd_of};
 ghost use Rattle.rsb_streams.specs.Items.{GaveRun, IsEnding};
 ghost use Rattle.rsb_streams.specs.Stream.{◌⊆◌, just};
-ghost use Rattle.range_set_blaze.specs.Multiway.{HasRunsOfAllAtMost, IsMadeOf};
+ghost use Rattle.range_set_blaze.specs.Multiway.{GivesSets, HasRunsOfAllAtMost, IsMadeOf};
 ghost use Rattle.rsb_storage.specs.Set.{IsSetOf};
 
 use crate::set::RangeSetBlaze;
@@ -33,6 +33,9 @@ pub trait MultiwayRangeSetBlaze<T: Integer, S: Allocator>: IntoIterator<
         ensures members { IfOk result (λ set.
             GaveRun Self.into_iter_gives Self.IntoIter.next_gives self
             (λ sets. IsMadeOf T.value_count any_of sets set)) }
+        ensures given { (sets : List (List Interval))
+            → GivesSets Self.into_iter_gives Self.IntoIter.next_gives (λ items. items) self sets
+            → IfOk result (λ set. IsSetOf set (any_of (map members sets))) }
     {
         union_of(alloc, self)
     }
@@ -50,6 +53,14 @@ pub trait MultiwayRangeSetBlaze<T: Integer, S: Allocator>: IntoIterator<
         ensures members { IfOk result (λ set.
             GaveRun Self.into_iter_gives Self.IntoIter.next_gives self
             (λ sets. IsMadeOf T.value_count all_of sets set)) }
+        ensures given { (sets : List (List Interval))
+            → GivesSets Self.into_iter_gives Self.IntoIter.next_gives (λ items. items) self sets
+            → IfOk result (λ set. IsMadeOf T.value_count all_of sets set) }
+        // If there are no sets, the ranks past the end of the type are selected too. Otherwise this
+        // holds at every rank.
+        ensures exactly { (sets : List (List Interval))
+            → GivesSets Self.into_iter_gives Self.IntoIter.next_gives (λ items. items) self sets
+            → 0 < length sets → IfOk result (λ set. IsSetOf set (all_of (map members sets))) }
     {
         intersection_of(alloc, self)
     }
@@ -67,6 +78,9 @@ pub trait MultiwayRangeSetBlaze<T: Integer, S: Allocator>: IntoIterator<
         ensures members { IfOk result (λ set.
             GaveRun Self.into_iter_gives Self.IntoIter.next_gives self
             (λ sets. IsMadeOf T.value_count odd_of sets set)) }
+        ensures given { (sets : List (List Interval))
+            → GivesSets Self.into_iter_gives Self.IntoIter.next_gives (λ items. items) self sets
+            → IfOk result (λ set. IsSetOf set (odd_of (map members sets))) }
     {
         symmetric_difference_of(alloc, self)
     }
@@ -94,6 +108,9 @@ pub trait MultiwayRangeSetBlaze<T: Integer, S: Allocator>: IntoIterator<
         ensures run_count { 0 < k → IfOk result (λ set.
             GaveRun Self.into_iter_gives Self.IntoIter.next_gives self
             (λ sets. HasRunsOfAllAtMost sets set)) }
+        ensures given { (sets : List (List Interval))
+            → GivesSets Self.into_iter_gives Self.IntoIter.next_gives (λ items. items) self sets
+            → 0 < k → IfOk result (λ set. IsSetOf set (at_least k (map members sets))) }
     {
         at_least_of(alloc, self, k)
     }
@@ -119,6 +136,9 @@ pub trait MultiwayRangeSetBlazeRef<'a, T: Integer + 'a, S: Allocator + 'a>: Into
         ensures members { IfOk result (λ set.
             GaveRun Self.into_iter_gives Self.IntoIter.next_gives self
             (λ sets. IsMadeOf T.value_count any_of (map (λ lent. lent.now) sets) set)) }
+        ensures given { (sets : List (List Interval))
+            → GivesSets Self.into_iter_gives Self.IntoIter.next_gives (map (λ lent. lent.now)) self sets
+            → IfOk result (λ set. IsSetOf set (any_of (map members sets))) }
     {
         union_of(alloc, self)
     }
@@ -136,6 +156,14 @@ pub trait MultiwayRangeSetBlazeRef<'a, T: Integer + 'a, S: Allocator + 'a>: Into
         ensures members { IfOk result (λ set.
             GaveRun Self.into_iter_gives Self.IntoIter.next_gives self
             (λ sets. IsMadeOf T.value_count all_of (map (λ lent. lent.now) sets) set)) }
+        ensures given { (sets : List (List Interval))
+            → GivesSets Self.into_iter_gives Self.IntoIter.next_gives (map (λ lent. lent.now)) self sets
+            → IfOk result (λ set. IsMadeOf T.value_count all_of sets set) }
+        // If there are no sets, the ranks past the end of the type are selected too. Otherwise this
+        // holds at every rank.
+        ensures exactly { (sets : List (List Interval))
+            → GivesSets Self.into_iter_gives Self.IntoIter.next_gives (map (λ lent. lent.now)) self sets
+            → 0 < length sets → IfOk result (λ set. IsSetOf set (all_of (map members sets))) }
     {
         intersection_of(alloc, self)
     }
@@ -153,6 +181,9 @@ pub trait MultiwayRangeSetBlazeRef<'a, T: Integer + 'a, S: Allocator + 'a>: Into
         ensures members { IfOk result (λ set.
             GaveRun Self.into_iter_gives Self.IntoIter.next_gives self
             (λ sets. IsMadeOf T.value_count odd_of (map (λ lent. lent.now) sets) set)) }
+        ensures given { (sets : List (List Interval))
+            → GivesSets Self.into_iter_gives Self.IntoIter.next_gives (map (λ lent. lent.now)) self sets
+            → IfOk result (λ set. IsSetOf set (odd_of (map members sets))) }
     {
         symmetric_difference_of(alloc, self)
     }
@@ -180,6 +211,9 @@ pub trait MultiwayRangeSetBlazeRef<'a, T: Integer + 'a, S: Allocator + 'a>: Into
         ensures run_count { 0 < k → IfOk result (λ set.
             GaveRun Self.into_iter_gives Self.IntoIter.next_gives self
             (λ sets. HasRunsOfAllAtMost (map (λ lent. lent.now) sets) set)) }
+        ensures given { (sets : List (List Interval))
+            → GivesSets Self.into_iter_gives Self.IntoIter.next_gives (map (λ lent. lent.now)) self sets
+            → 0 < k → IfOk result (λ set. IsSetOf set (at_least k (map members sets))) }
     {
         at_least_of(alloc, self, k)
     }
@@ -279,8 +313,11 @@ fn union_of<T: Integer, S: GivesRuns<T>, A: Allocator + Copy, K: IntoIterator<It
     sets: K,
 ) -> Result<RangeSetBlaze<T, A>, AllocError>
     requires { IsEnding K.into_iter_gives K.IntoIter.can_next K.IntoIter.remaining sets }
-    ensures { IfOk result (λ set. GaveRun K.into_iter_gives K.IntoIter.next_gives sets
+    ensures members { IfOk result (λ set. GaveRun K.into_iter_gives K.IntoIter.next_gives sets
         (λ items. IsMadeOf T.value_count any_of (S.shown items) set)) }
+    ensures given { (known : List (List Interval))
+        → GivesSets K.into_iter_gives K.IntoIter.next_gives S.shown sets known
+        → IfOk result (λ set. IsSetOf set (any_of (map members known))) }
 {
     let streams = streams_of(alloc, sets)?;
     let union = streams.union(alloc)?;
@@ -293,8 +330,14 @@ fn intersection_of<T: Integer, S: GivesRuns<T>, A: Allocator + Copy, K: IntoIter
     sets: K,
 ) -> Result<RangeSetBlaze<T, A>, AllocError>
     requires { IsEnding K.into_iter_gives K.IntoIter.can_next K.IntoIter.remaining sets }
-    ensures { IfOk result (λ set. GaveRun K.into_iter_gives K.IntoIter.next_gives sets
+    ensures members { IfOk result (λ set. GaveRun K.into_iter_gives K.IntoIter.next_gives sets
         (λ items. IsMadeOf T.value_count all_of (S.shown items) set)) }
+    ensures given { (known : List (List Interval))
+        → GivesSets K.into_iter_gives K.IntoIter.next_gives S.shown sets known
+        → IfOk result (λ set. IsMadeOf T.value_count all_of known set) }
+    ensures exactly { (known : List (List Interval))
+        → GivesSets K.into_iter_gives K.IntoIter.next_gives S.shown sets known
+        → 0 < length known → IfOk result (λ set. IsSetOf set (all_of (map members known))) }
 {
     let streams = streams_of(alloc, sets)?;
     let intersection = streams.intersection(alloc)?;
@@ -309,8 +352,11 @@ fn symmetric_difference_of<
     K: IntoIterator<Item = S>,
 >(alloc: A, sets: K) -> Result<RangeSetBlaze<T, A>, AllocError>
     requires { IsEnding K.into_iter_gives K.IntoIter.can_next K.IntoIter.remaining sets }
-    ensures { IfOk result (λ set. GaveRun K.into_iter_gives K.IntoIter.next_gives sets
+    ensures members { IfOk result (λ set. GaveRun K.into_iter_gives K.IntoIter.next_gives sets
         (λ items. IsMadeOf T.value_count odd_of (S.shown items) set)) }
+    ensures given { (known : List (List Interval))
+        → GivesSets K.into_iter_gives K.IntoIter.next_gives S.shown sets known
+        → IfOk result (λ set. IsSetOf set (odd_of (map members known))) }
 {
     let streams = streams_of(alloc, sets)?;
     let difference = streams.symmetric_difference(alloc)?;
@@ -332,6 +378,9 @@ fn at_least_of<T: Integer, S: GivesRuns<T>, A: Allocator + Copy, K: IntoIterator
     ensures run_count { 0 < k → IfOk result (λ set.
         GaveRun K.into_iter_gives K.IntoIter.next_gives sets
         (λ items. HasRunsOfAllAtMost (S.shown items) set)) }
+    ensures given { (known : List (List Interval))
+        → GivesSets K.into_iter_gives K.IntoIter.next_gives S.shown sets known
+        → 0 < k → IfOk result (λ set. IsSetOf set (at_least k (map members known))) }
 {
     let streams = streams_of(alloc, sets)?;
     let deep = streams.at_least(alloc, k)?;

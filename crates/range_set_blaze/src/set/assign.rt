@@ -3,7 +3,12 @@
 
 ghost use Rattle.std.specs.Prelude.{◌≡◌, IsOk, OnErr, OnOk};
 ghost use Rattle.rsb_integer.specs.Runs.{members};
-ghost use Rattle.rsb_integer.specs.Selection.{difference, intersection, symmetric_difference, IsEmpty};
+ghost use Rattle.rsb_integer.specs.Selection.{
+  difference,
+  intersection,
+  symmetric_difference,
+  IsEmpty,
+};
 ghost use Rattle.rsb_streams.specs.RunCount.{HasFewerRunsThanBoth, HasRunsOfBothAtMost};
 ghost use Rattle.rsb_storage.specs.Set.{IsSetOf};
 

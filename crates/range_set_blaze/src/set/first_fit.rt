@@ -1,11 +1,38 @@
 //! The first gap, or the first run, that has at least a given length.
 
-ghost use Rattle.std.specs.Prelude.{◌≡◌, ◌↔◌, ℕ, ◌+◌, ◌<◌, ◌≤◌, IfSome, IsFalse, IsNone, IsTrue, MatchOption};
+ghost use Rattle.std.specs.Prelude.{
+  ◌≡◌,
+  ◌↔◌,
+  ℕ,
+  ◌+◌,
+  ◌<◌,
+  ◌≤◌,
+  IfSome,
+  IsFalse,
+  IsNone,
+  IsTrue,
+  MatchOption,
+};
 ghost use Rattle.std.specs.Range.{range_inclusive_end, range_inclusive_start};
 ghost use Rattle.rsb_integer.specs.Rank.{interval_of};
-ghost use Rattle.rsb_integer.specs.Runs.{covers, from_to, length_of, members, AllEndBelow, IsCanonicalFrom, IsCanonicalIn, IsMaximalRun};
-ghost use Rattle.rsb_integer.specs.Selection.{complement, intersection};
-ghost use Rattle.rsb_storage.specs.FirstFit.{AllShorter, AllShorterBefore, IsFirstFit, IsFree};
+ghost use Rattle.rsb_integer.specs.Runs.{
+  covers,
+  from_to,
+  length_of,
+  members,
+  AllEndBelow,
+  IsCanonicalFrom,
+  IsCanonicalIn,
+  IsMaximalRun,
+};
+ghost use Rattle.rsb_integer.specs.Selection.{complement, intersection, IsEmpty, IsUniversal};
+ghost use Rattle.rsb_storage.specs.FirstFit.{
+  AllShorter,
+  AllShorterBefore,
+  HasAllFrom,
+  IsFirstFit,
+  IsFree,
+};
 ghost use Rattle.rsb_storage.specs.Storage.{run_of, runs_of};
 ghost use Rattle.rsb_storage.specs.Split.{from_on};
 ghost use Rattle.rsb_storage.specs.Starts.{runs_past};
@@ -45,6 +72,13 @@ impl<T: Integer, A: Allocator> RangeSetBlaze<T, A> {
         ensures nowhere { IsNone result → (start : ℕ) → 0 < T.SafeLen.number len
             → ¬ (IsFree T.value_count self.now start (T.SafeLen.number len)) }
 
+        // If `len` is at most 1, every value before the gap is a member. There is then no gap
+        // exactly if every value of the type is a member.
+        ensures before { T.SafeLen.number len ≤ 1 → IfSome result (λ range. (rank : ℕ)
+            → rank < T.rank (range_inclusive_start range) → IsTrue (members self.now rank)) }
+        ensures full { T.SafeLen.number len ≤ 1
+            → IsNone result ↔ IsUniversal T.value_count (members self.now) }
+
         // The range in terms of its two ends, and the fact that none of its values is a member.
         ensures ends { IfSome result (λ range. interval_of T.rank range
             ≡ from_to (T.rank (range_inclusive_start range)) (T.rank (range_inclusive_end range))) }
@@ -81,6 +115,14 @@ impl<T: Integer, A: Allocator> RangeSetBlaze<T, A> {
             → 0 < T.SafeLen.number len
             → ¬ (IsFree T.value_count self.now start (T.SafeLen.number len)) }
 
+        // If `len` is at most 1, every value from `value` to the gap is a member. There is then no
+        // gap exactly if every value from `value` on is a member.
+        ensures before { T.SafeLen.number len ≤ 1 → IfSome result (λ range. (rank : ℕ)
+            → T.rank value ≤ rank → rank < T.rank (range_inclusive_start range)
+            → IsTrue (members self.now rank)) }
+        ensures full { T.SafeLen.number len ≤ 1
+            → IsNone result ↔ HasAllFrom T.value_count self.now (T.rank value) }
+
         // The range in terms of its two ends, and the fact that none of its values is a member.
         ensures from { IfSome result (λ range.
             T.rank value ≤ T.rank (range_inclusive_start range)) }
@@ -105,6 +147,12 @@ impl<T: Integer, A: Allocator> RangeSetBlaze<T, A> {
             (T.SafeLen.number len) (interval_of T.rank range).first) }
         ensures none { IsNone result → AllShorter T.value_count (members self.now)
             (T.SafeLen.number len) }
+
+        // If `len` is at most 1, no value before the run is a member. There is then no run exactly
+        // if the set is empty.
+        ensures before { T.SafeLen.number len ≤ 1 → IfSome result (λ range. (rank : ℕ)
+            → rank < T.rank (range_inclusive_start range) → IsFalse (members self.now rank)) }
+        ensures empty { T.SafeLen.number len ≤ 1 → IsNone result ↔ IsEmpty (members self.now) }
 
         // The range in terms of its two ends, and the fact that each of its values is a member.
         ensures ends { IfSome result (λ range. interval_of T.rank range

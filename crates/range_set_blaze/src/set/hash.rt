@@ -3,7 +3,7 @@
 ghost use Rattle.std.specs.Prelude.{◌≡◌, ◌++◌, List, flat_map, fold};
 ghost use Rattle.rsb_integer.specs.Runs.{Interval, members, IsCanonicalIn};
 ghost use Rattle.range_set_blaze.specs.Hash.{ends_of_runs, hashed_runs, run_bounds};
-ghost use Rattle.range_set_blaze.specs.HashLaws.{hashed_runs-same};
+ghost use Rattle.range_set_blaze.specs.laws.Hash.{hashed_runs-same};
 
 use crate::set::RangeSetBlaze;
 use rsb_integer::Integer;

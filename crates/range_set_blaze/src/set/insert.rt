@@ -1,9 +1,35 @@
 //! Insertion of values and of ranges.
 
-ghost use Rattle.std.specs.Prelude.{◌≡◌, ◌↔◌, ℕ, ◌+◌, ◌<◌, ◌≤◌, max, Some, IfOk, IfSome, IsFalse, IsNone, IsOk, IsSome, IsTrue, MatchOption, OnErr, OnOk};
+ghost use Rattle.std.specs.Prelude.{
+  ◌≡◌,
+  ◌↔◌,
+  ℕ,
+  ◌+◌,
+  ◌<◌,
+  ◌≤◌,
+  max,
+  Some,
+  IfOk,
+  IfSome,
+  IsFalse,
+  IsNone,
+  IsOk,
+  IsSome,
+  IsTrue,
+  MatchOption,
+  OnErr,
+  OnOk,
+};
 ghost use Rattle.rsb_integer.specs.Runs.{covers, length_of, members, IsCanonicalIn, HasRanks};
 ghost use Rattle.rsb_integer.specs.Selection.{IsEmpty, LacksSome};
-ghost use Rattle.range_set_blaze.specs.Joining.{HasAll, IsHull, IsInserted, IsJoining, IsReaching, IsUnreached};
+ghost use Rattle.range_set_blaze.specs.Joining.{
+  HasAll,
+  IsHull,
+  IsInserted,
+  IsJoining,
+  IsReaching,
+  IsUnreached,
+};
 ghost use Rattle.rsb_storage.specs.Storage.{run_of, IsKept};
 ghost use Rattle.rsb_streams.specs.RunCount.{HasOneRunMoreAtMost};
 ghost use Rattle.rsb_storage.specs.Starts.{IsLastBelow, IsLastTwo, NoneBelow};
@@ -43,6 +69,7 @@ impl<T: Integer, A: Allocator + Clone> RangeSetBlaze<T, A> {
         ensures added { R.has_bounds range → IfOk result (λ added. IsTrue added ↔
             LacksSome (members self.old)
             (ranks_in T.rank T.value_count R.start_bound R.end_bound range)) }
+        ensures unchanged { IfOk result (λ added. IsFalse added → self.new ≡ self.old) }
         ensures run_count { HasOneRunMoreAtMost self.old self.new }
         ensures err { OnErr result (self.new ≡ self.old) }
 
@@ -66,6 +93,7 @@ impl<T: Integer, A: Allocator + Clone> RangeSetBlaze<T, A> {
         ensures members { OnOk result (Adds self.old self.new (only (T.rank value))) }
         ensures added { IfOk result (λ added.
             IsTrue added ↔ IsFalse (members self.old (T.rank value))) }
+        ensures unchanged { IfOk result (λ added. IsFalse added → self.new ≡ self.old) }
         ensures run_count { HasOneRunMoreAtMost self.old self.new }
         ensures err { OnErr result (self.new ≡ self.old) }
 
@@ -83,6 +111,7 @@ impl<T: Integer, A: Allocator + Clone> RangeSetBlaze<T, A> {
         ensures found { IfOk result (λ found.
             IsSome found ↔ IsTrue (members self.old (T.rank value))) }
         ensures value { IfOk result (λ found. IfSome found (λ member. member ≡ value)) }
+        ensures unchanged { IfOk result (λ found. IsSome found → self.new ≡ self.old) }
         ensures run_count { HasOneRunMoreAtMost self.old self.new }
         ensures err { OnErr result (self.new ≡ self.old) }
 
@@ -105,6 +134,7 @@ impl<T: Integer, A: Allocator + Clone> RangeSetBlaze<T, A> {
             (Adds self.old self.new (covers (run_of T.rank run))) }
         ensures added { IfOk result (λ added. IsTrue added ↔
             LacksSome (members self.old) (covers (run_of T.rank run))) }
+        ensures unchanged { IfOk result (λ added. IsFalse added → self.new ≡ self.old) }
         ensures run_count { HasOneRunMoreAtMost self.old self.new }
         ensures err { OnErr result (self.new ≡ self.old) }
         ensures succeeds { IsReached self.old (T.rank run.start) → IsOk result }

@@ -2,8 +2,18 @@
 
 ghost use Rattle.std.specs.Prelude.{◌≡◌, IfOk};
 ghost use Rattle.rsb_integer.specs.Runs.{members};
-ghost use Rattle.rsb_integer.specs.Selection.{difference, intersection, symmetric_difference, union, complement_in};
-ghost use Rattle.rsb_streams.specs.RunCount.{HasFewerRunsThanBoth, HasOneRunMoreAtMost, HasRunsOfBothAtMost};
+ghost use Rattle.rsb_integer.specs.Selection.{
+  difference,
+  intersection,
+  symmetric_difference,
+  union,
+  complement_in,
+};
+ghost use Rattle.rsb_streams.specs.RunCount.{
+  HasFewerRunsThanBoth,
+  HasOneRunMoreAtMost,
+  HasRunsOfBothAtMost,
+};
 ghost use Rattle.rsb_storage.specs.Set.{IsSetOf};
 
 use crate::set::RangeSetBlaze;

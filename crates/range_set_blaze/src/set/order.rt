@@ -1,11 +1,34 @@
 //! Equality and order of sets.
 
-ghost use Rattle.std.specs.Prelude.{◌≡◌, ◌↔◌, ℕ, ◌+◌, ◌≤◌, List, [], length, min, refl, IsTrue, Some, cond, nat_lt};
+ghost use Rattle.std.specs.Prelude.{
+  ◌≡◌,
+  ◌↔◌,
+  ℕ,
+  ◌+◌,
+  ◌≤◌,
+  List,
+  [],
+  length,
+  min,
+  refl,
+  IsTrue,
+  Some,
+  cond,
+  nat_lt,
+};
 ghost use Rattle.std.specs.declared.cmp.Ordering.TheVariants.{Greater, Less};
 ghost use Rattle.rsb_integer.specs.Runs.{Interval, members, IsCanonicalIn};
 ghost use Rattle.rsb_integer.specs.Selection.{Agree};
 ghost use Rattle.range_set_blaze.specs.Order.{AreTurns, HasOrder};
-ghost use Rattle.range_set_blaze.specs.OrderLaws.{set_cmp, set_eq, sets_equivalence, sets_partial_equivalence, sets_partial_order, sets_ties, sets_total};
+ghost use Rattle.range_set_blaze.specs.laws.Order.{
+  set_cmp,
+  set_eq,
+  sets_equivalence,
+  sets_partial_equivalence,
+  sets_partial_order,
+  sets_ties,
+  sets_total,
+};
 
 use crate::set::RangeSetBlaze;
 use rsb_integer::Integer;

@@ -1,6 +1,24 @@
 //! Removal of values.
 
-ghost use Rattle.std.specs.Prelude.{◌≡◌, ◌↔◌, ◌+◌, ◌<◌, ◌≤◌, ℕ, [], Contains, IfOk, IfSome, IsFalse, IsNone, IsOk, IsSome, IsTrue, OnErr, OnOk};
+ghost use Rattle.std.specs.Prelude.{
+  ◌≡◌,
+  ◌↔◌,
+  ◌+◌,
+  ◌<◌,
+  ◌≤◌,
+  ℕ,
+  [],
+  Contains,
+  IfOk,
+  IfSome,
+  IsFalse,
+  IsNone,
+  IsOk,
+  IsSome,
+  IsTrue,
+  OnErr,
+  OnOk,
+};
 ghost use Rattle.rsb_integer.specs.Runs.{members, IsCanonicalIn};
 ghost use Rattle.range_set_blaze.specs.BothEnds.{TakesGreatest, TakesLeast};
 ghost use Rattle.rsb_storage.specs.Storage.{run_of, IsKept};
@@ -22,6 +40,7 @@ impl<T: Integer, A: Allocator + Clone> RangeSetBlaze<T, A> {
         ensures members { OnOk result (Removes self.old self.new (only (T.rank value))) }
         ensures removed { IfOk result (λ removed.
             IsTrue removed ↔ IsTrue (members self.old (T.rank value))) }
+        ensures unchanged { IfOk result (λ removed. IsFalse removed → self.new ≡ self.old) }
         ensures run_count { HasOneRunMoreAtMost self.old self.new }
         ensures err { OnErr result (self.new ≡ self.old) }
 
@@ -44,6 +63,7 @@ impl<T: Integer, A: Allocator + Clone> RangeSetBlaze<T, A> {
         ensures found { IfOk result (λ found.
             IsSome found ↔ IsTrue (members self.old (T.rank value))) }
         ensures value { IfOk result (λ found. IfSome found (λ member. member ≡ value)) }
+        ensures unchanged { IfOk result (λ found. IsNone found → self.new ≡ self.old) }
         ensures run_count { HasOneRunMoreAtMost self.old self.new }
         ensures err { OnErr result (self.new ≡ self.old) }
 

@@ -1,10 +1,31 @@
 //! Removal of the values between two bounds.
 
-ghost use Rattle.std.specs.Prelude.{◌≡◌, ◌↔◌, ◌+◌, ◌<◌, ◌≤◌, IfOk, IsFalse, IsOk, IsTrue, MatchOption, OnErr, OnOk};
+ghost use Rattle.std.specs.Prelude.{
+  ◌≡◌,
+  ◌↔◌,
+  ◌+◌,
+  ◌<◌,
+  ◌≤◌,
+  IfOk,
+  IsFalse,
+  IsOk,
+  IsTrue,
+  MatchOption,
+  OnErr,
+  OnOk,
+};
 ghost use Rattle.rsb_integer.specs.Runs.{covers, members, IsCanonicalIn};
 ghost use Rattle.rsb_integer.specs.Selection.{intersection, IsEmpty};
 ghost use Rattle.rsb_storage.specs.Storage.{run_of, IsKept};
-ghost use Rattle.range_set_blaze.specs.RemoveRanges.{HasSome, IsCommon, IsLastMeeting, IsNarrowed, IsSameOutside, Lacks, RemovesFound};
+ghost use Rattle.range_set_blaze.specs.RemoveRanges.{
+  HasSome,
+  IsCommon,
+  IsLastMeeting,
+  IsNarrowed,
+  IsSameOutside,
+  Lacks,
+  RemovesFound,
+};
 ghost use Rattle.rsb_streams.specs.RunCount.{HasOneRunMoreAtMost};
 ghost use Rattle.rsb_storage.specs.Set.{past_rank, ranks_in, Removes};
 
@@ -33,6 +54,7 @@ impl<T: Integer, A: Allocator + Clone> RangeSetBlaze<T, A> {
         ensures removed { R.has_bounds range → IfOk result (λ removed. IsTrue removed ↔
             HasSome (members self.old)
             (ranks_in T.rank T.value_count R.start_bound R.end_bound range)) }
+        ensures unchanged { IfOk result (λ removed. IsFalse removed → self.new ≡ self.old) }
         ensures run_count { HasOneRunMoreAtMost self.old self.new }
         ensures err { OnErr result (self.new ≡ self.old) }
 
@@ -58,6 +80,7 @@ impl<T: Integer, A: Allocator + Clone> RangeSetBlaze<T, A> {
             (Removes self.old self.new (covers (run_of T.rank run))) }
         ensures removed { IfOk result (λ removed. IsTrue removed ↔
             HasSome (members self.old) (covers (run_of T.rank run))) }
+        ensures unchanged { IfOk result (λ removed. IsFalse removed → self.new ≡ self.old) }
         ensures run_count { HasOneRunMoreAtMost self.old self.new }
         ensures err { OnErr result (self.new ≡ self.old) }
         ensures nothing { IsEmpty (intersection (members self.old) (covers (run_of T.rank run)))

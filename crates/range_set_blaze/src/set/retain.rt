@@ -1,12 +1,42 @@
 //! Removal of the members and of the runs for which a closure returns false.
 
-ghost use Rattle.std.specs.Prelude.{◌≡◌, Bool, [], IsOk, OnErr, OnOk, ◌+◌, ◌<◌, ◌≤◌, ℕ, ◌∷◌, None, Some, IfOk, IfSome, IsTrue};
+ghost use Rattle.std.specs.Prelude.{
+  ◌≡◌,
+  Bool,
+  [],
+  IsOk,
+  OnErr,
+  OnOk,
+  ◌+◌,
+  ◌<◌,
+  ◌≤◌,
+  ℕ,
+  ◌∷◌,
+  None,
+  Some,
+  IfOk,
+  IfSome,
+  IsTrue,
+};
 ghost use Rattle.std.specs.List.{filter};
 ghost use Rattle.rsb_integer.specs.Runs.{Interval, members, IsCanonicalIn};
 ghost use Rattle.rsb_integer.specs.Selection.{intersection, IsSubset, Selection, union};
 ghost use Rattle.rsb_streams.specs.Sublists.{IsSublist};
 ghost use Rattle.rsb_storage.specs.Storage.{IsKept, run_of, runs_of};
-ghost use Rattle.range_set_blaze.specs.Retain.{AnswersByRank, AnswersByRun, AsksAll, AsksFront, AsksRuns, CallableOnMembers, CallableOnRuns, left_runs, past_piece, with_piece, IsCanonicalBelow, IsPastFirst};
+ghost use Rattle.range_set_blaze.specs.Retain.{
+  AnswersByRank,
+  AnswersByRun,
+  AsksAll,
+  AsksFront,
+  AsksRuns,
+  CallableOnMembers,
+  CallableOnRuns,
+  left_runs,
+  past_piece,
+  with_piece,
+  IsCanonicalBelow,
+  IsPastFirst,
+};
 ghost use Rattle.rsb_storage.specs.Set.{IsSetOf, only};
 
 use crate::set::RangeSetBlaze;

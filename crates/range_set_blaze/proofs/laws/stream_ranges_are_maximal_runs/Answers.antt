@@ -5,4 +5,4 @@ use Rattle.range_set_blaze.proofs.laws.stream_ranges_are_maximal_runs.Goals as g
 pub returns : goal.returns
 returns g c stream runs ready may =
     let canonical = g.met.I.DrawDisjoint.canonical stream ready runs may in
-    canonical-runs g.T.Integer.value_count runs canonical.0 canonical.1
+    canonical-runs g.T.Integer.value_count runs canonical.apart canonical.within

@@ -1,6 +1,5 @@
 -- Calls at the two ends of an iterator over the elements of a stream.
 use Rattle.std.proofs.Common.{◌≡◌, ◌↔◌, ℕ, true, false, ◌+◌, ◌<◌, ◌≤◌, List, [], ◌∷◌, ◌++◌, append-nil, append_assoc, refl, sym, ◌∙◌, ap, subst, arith}
-use Rattle.std.proofs.lemmas.List.Elements.{All-nil}
 use Rattle.std.proofs.lemmas.Nat.{row_fits}
 use Rattle.std.specs.Prelude.{Option, Some, None, IfSome, IsNone}
 use Rattle.std.specs.Iterator.{Count, IsFinite, MakesProgress, size}
@@ -8,7 +7,7 @@ use Rattle.std.specs.declared.ops.RangeInclusive.{RangeInclusive}
 use Rattle.rsb_integer.specs.Rank.{interval_of}
 use Rattle.rsb_integer.specs.Runs.{Interval, length_of, members, IsAfterFirst, IsBeforeLast, IsCanonicalIn, HasNoRanks}
 use Rattle.rsb_integer.specs.Selection.{Selection}
-use Rattle.rsb_integer.proofs.lemmas.Canonical.{canonical-parts}
+use Rattle.rsb_integer.proofs.lemmas.Canonical.{canonical-none, canonical-parts}
 use Rattle.rsb_integer.proofs.lemmas.List.{not_both}
 use Rattle.rsb_streams.specs.Stream.{run_if_any, outcomes_unless}
 use Rattle.rsb_streams.specs.declared.draw.Draw.{Ghosts as Stream}
@@ -185,16 +184,17 @@ module _ {T I N : Type 0} {rank : T → ℕ} {n : ℕ} (stream : Stream I T N) (
   turns {run = run} {rest = rest} {others = others} {item = None} pops alone known =
       let none = pops-none pops in
       rw (none-if_empty run none.0, none-if_empty rest none.1, alone refl, e.nothing) (
-        (tt, All-nil (λ (each : Interval). each.last < n)),
+        canonical-none n,
         record { none = ((λ no point. refl), (λ no. refl)); found = tt; rest = λ point. refl },
       )
   turns {run = run} {rest = rest} {others = others} {item = Some value} pops alone known =
       let one = one-if_some run (pops-some pops) in
       let edge = e.edge run in
+      let whole = subst (IsCanonicalIn n) (ap (λ own. placed own others) one) known in
       let is = taken n (e.back others) run rest edge (e.shorter pops) (e.below pops) 0
-      (e.front others) (subst (IsCanonicalIn n) (ap (λ own. placed own others) one) known) in
+      (e.front others) (record { apart = whole.apart; within = whole.within }) in
       rw one (
-        is.canonical,
+        record { apart = is.canonical.apart; within = is.canonical.within },
         record {
           none = ((λ lacks. absurd (cc)), (λ nothing. absurd (not_both _ is.here (nothing edge))));
           found = rw (e.some pops) (e.found is);
@@ -286,8 +286,8 @@ module _ {T I N : Type 0} {rank : T → ℕ} {n : ℕ} (stream : Stream I T N) (
           grind (arith, undone, same, may, answers),
           λ known.
               let parts = canonical-parts 0 (e.front others) (run ∷ e.back others)
-              (subst (IsCanonicalIn n) was known).0 in
-              let some = parts.1.1 in (
+              (subst (IsCanonicalIn n) was known).apart in
+              let some = parts.1.in_order in (
                 others,
                 was ∙ ap (λ own. placed own others) (sym (one-if_some run some)),
                 rw (← other) (e.apart t rest),

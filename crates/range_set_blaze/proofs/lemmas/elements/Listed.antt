@@ -37,8 +37,8 @@ length-sum : (low : ℕ) (runs : List Interval) → IsCanonicalFrom low runs
     → length runs ≤ sum_by length_of runs
 length-sum low [] canonical = omega arith
 length-sum low (run ∷ runs) canonical =
-    let rest = length-sum (run.last + 2) runs canonical.2 in
-    omega (arith, sum_by-cons length_of run runs, rest, canonical.1)
+    let rest = length-sum (run.last + 2) runs canonical.rest in
+    omega (arith, sum_by-cons length_of run runs, rest, canonical.in_order)
 
 module _ {T : Type 0} (rank : T → ℕ) (n : ℕ) where
   -- What a list may still give.
@@ -69,8 +69,8 @@ module _ {T : Type 0} (rank : T → ℕ) (n : ℕ) where
       let runs = runs_left rank s in
       let canonical = (is_ready rank n (IsListReady rank n) given s ready).canonical runs
       ((listed-left s runs).1 refl) in
-      let least = length-sum 0 runs canonical.0 in
-      let all = count-members n 0 runs canonical.0 canonical.1 in
+      let least = length-sum 0 runs canonical.apart in
+      let all = count-members n 0 runs canonical.apart canonical.within in
       let some = within tt in
       grind (arith, length-append, length-map, least, all, some)
 

@@ -32,8 +32,9 @@ shorter-last run rest before = record {
 }
 
 -- Whether a list is canonical from a rank on, in a type of n values.
-abbrev IsCanonicalBetween : ℕ → ℕ → List Interval → Type 0
-IsCanonicalBetween low n runs = IsCanonicalFrom low runs × AllEndBelow n runs
+pub record IsCanonicalBetween (low n : ℕ) (runs : List Interval) : Type 0 where
+  pub apart : IsCanonicalFrom low runs
+  pub within : AllEndBelow n runs
 
 -- Whether a canonical list in which an interval loses a rank stays canonical, and keeps the other
 -- members. The first rank of the first interval is the least member, and the last rank of the last
@@ -56,16 +57,16 @@ module _ (n : ℕ) (after : List Interval) (run rest : Interval) (point : ℕ)
   pub taken : (low : ℕ) (before : List Interval)
       → IsCanonicalBetween low n (before ++ run ∷ after) → IsTaken low n before after run rest point
   taken low [] known =
-      let some = known.0.1 in
+      let some = known.apart.in_order in
       let lower = λ (lower : ℕ). canonical-lower (run.last + 2) lower after in
-      let later = λ (other : ℕ). members-below (run.last + 2) after other known.0.2 in
-      let ends = All-tail (λ (each : Interval). each.last < n) run after known.1 in
+      let later = λ (other : ℕ). members-below (run.last + 2) after other known.apart.rest in
+      let ends = All-tail (λ (each : Interval). each.last < n) run after known.within in
       record {
-        starts = grind (arith, nat_tests, shorter.same some point, known.0.0);
-        canonical = (
-          grind (arith, nat_tests, known.0.0, some, known.0.2, shorter.within, lower),
-          grind (arith, nat_tests, ends, below, shorter.within, All-cons),
-        );
+        starts = grind (arith, nat_tests, shorter.same some point, known.apart.starts);
+        canonical = record {
+          apart = grind (arith, nat_tests, known.apart.starts, some, known.apart.rest, shorter.within, lower);
+          within = grind (arith, nat_tests, ends, below, shorter.within, All-cons);
+        };
         removes = λ other. grind (arith, nat_tests, shorter.same some other, later other);
         in_type = grind (arith, nat_tests, shorter.same some point, below);
         here = grind (arith, nat_tests, shorter.same some point);
@@ -74,16 +75,21 @@ module _ (n : ℕ) (after : List Interval) (run rest : Interval) (point : ℕ)
             grind (arith, nat_tests, edge, member, ap (λ runs. cover runs other) none);
       }
   taken low (first ∷ before) known =
-      let tail = taken (first.last + 2) before (
-        known.0.2,
-        All-tail (λ (each : Interval). each.last < n) first (before ++ run ∷ after) known.1,
-      ) in
+      let tail = taken (first.last + 2) before (record {
+        apart = known.apart.rest;
+        within = All-tail (λ (each : Interval). each.last < n) first (before ++ run ∷ after)
+            known.within;
+      }) in
       record {
-        starts = omega (arith, known.0.0, known.0.1, tail.starts);
-        canonical = (
-          (known.0.0, known.0.1, tail.canonical.0),
-          grind (arith, All-cons, All-head, known.1, tail.canonical.1),
-        );
+        starts = omega (arith, known.apart.starts, known.apart.in_order, tail.starts);
+        canonical = record {
+          apart = record {
+            starts = known.apart.starts;
+            in_order = known.apart.in_order;
+            rest = tail.canonical.apart;
+          };
+          within = grind (arith, All-cons, All-head, known.within, tail.canonical.within);
+        };
         removes = λ other. grind (arith, nat_tests, tail.removes other, tail.starts);
         in_type = tail.in_type;
         here = grind (arith, nat_tests, tail.here);

@@ -1,15 +1,15 @@
 -- The first run, or the first gap, that is long enough.
 use Rattle.std.proofs.Common.{◌≡◌, ◌⊎◌, ℕ, true, false, not, nat_lt, ◌+◌, ◌-◌, ◌<◌, ◌≤◌, List, [], ◌∷◌, sym, ap, ◌∙◌, inl, inr, arith, subst}
 use Rattle.std.specs.List.{Contains}
-use Rattle.std.proofs.lemmas.Bool.{cases_lt}
+use Rattle.std.proofs.lemmas.Bool.{cases_Bool, cases_lt}
 use Rattle.std.proofs.lemmas.Bool.Decides.{nat_tests}
 use Rattle.std.proofs.lemmas.List.Elements.{All-contains, All-head, All-tail}
 use Rattle.rsb_integer.specs.Runs.{Interval, from_to, length_of, members, AllEndBelow, IsCanonicalFrom, IsCanonicalIn, IsMaximalRun}
-use Rattle.rsb_integer.specs.Selection.{Selection, complement, intersection}
+use Rattle.rsb_integer.specs.Selection.{Selection, complement, intersection, IsEmpty}
 use Rattle.rsb_integer.proofs.lemmas.Canonical.{canonical-lower, canonical-starts, canonical-tail}
 use Rattle.rsb_integer.proofs.lemmas.List.{not_both, Contains-cases, Contains-head, Contains-tail}
 use Rattle.rsb_integer.proofs.lemmas.Maximal.{maximal-around}
-use Rattle.rsb_integer.proofs.lemmas.Members.{covers-bounds, covers-inside, members-below, members-head, members-tail}
+use Rattle.rsb_integer.proofs.lemmas.Members.{covers-bounds, covers-inside, members-below, members-end, members-head, members-tail}
 use Rattle.rsb_integer.proofs.lemmas.Runs.{canonical-runs}
 use Rattle.rsb_storage.specs.FirstFit.{AllShorter, AllShorterBefore, HasAllFrom, IsFirstFit, IsFirstFree, IsFree}
 use Rattle.rsb_storage.specs.Split.{from_on}
@@ -49,7 +49,7 @@ module _ (n len : ℕ) (all : List Interval) (canonical : IsCanonicalIn n all) w
           (left.among run (Contains-head run rest));
       long = long;
       first = λ other maximal before. elim (left.passed other
-          ((canonical-runs n all canonical.0 canonical.1).complete other maximal)) [
+          ((canonical-runs n all canonical.apart canonical.within).complete other maximal)) [
             | inr shorter ↦ shorter
             | inl there ↦ elim (Contains-cases run rest other there) [
               | inl same ↦
@@ -57,8 +57,8 @@ module _ (n len : ℕ) (all : List Interval) (canonical : IsCanonicalIn n all) w
                   absurd (omega (arith, starts, before))
               | inr later ↦
                   let starts = All-contains (λ (each : Interval). run.last + 2 ≤ each.first) rest other
-                  (canonical-starts (run.last + 2) rest left.canonical.0.2) later in
-                  let order = left.canonical.0.1 in
+                  (canonical-starts (run.last + 2) rest left.canonical.apart.rest) later in
+                  let order = left.canonical.apart.in_order in
                   absurd (omega (arith, starts, order, before))
             ]
           ];
@@ -67,7 +67,7 @@ module _ (n len : ℕ) (all : List Interval) (canonical : IsCanonicalIn n all) w
   -- If no run is left, all runs are too short.
   pub passed-all : ArePassed n len all [] → AllShorter n (members all) len
   passed-all left run maximal = elim (left.passed run
-      ((canonical-runs n all canonical.0 canonical.1).complete run maximal)) [
+      ((canonical-runs n all canonical.apart canonical.within).complete run maximal)) [
         | inr shorter ↦ shorter
         | inl there ↦ let none = there.1 in absurd (omega arith)
       ]
@@ -127,6 +127,32 @@ module _ (n : ℕ) (selected : Selection) where
       let within = maximal.in_type in
       shorter run maximal (omega (arith, order, within))
 
+  -- If a run of one rank is long enough, no rank below the first maximal run is selected.
+  pub none-before : (len bound : ℕ) → len ≤ 1 → AllShorterBefore n selected len bound
+      → (rank : ℕ) → rank < bound → rank < n → selected rank ≡ false
+  none-before len bound any shorter rank before below = elim (cases_Bool (selected rank)) [
+    | inr out ↦ out
+    | inl here ↦
+        let found = maximal-around n selected rank below here in
+        let bounds = covers-bounds found.0 rank found.2 in
+        let order = found.1.in_order in
+        let short = shorter found.0 found.1 (omega (arith, bounds.0, before)) in
+        absurd (omega (arith, short, any, order))
+  ]
+
+  -- If there is no such run, no rank of the type is selected.
+  pub none-at_all : (len : ℕ) → len ≤ 1 → AllShorter n selected len
+      → (rank : ℕ) → rank < n → selected rank ≡ false
+  none-at_all len any shorter rank below =
+      none-before len (rank + 1) any (λ run maximal before. shorter run maximal) rank
+      (omega arith) below
+
+  -- The first rank of a maximal run is selected.
+  pub first-selected : (run : Interval) → IsMaximalRun n selected run → selected run.first ≡ true
+  first-selected run maximal =
+      let order = maximal.in_order in
+      maximal.whole run.first (covers-inside run run.first (omega arith) order)
+
 -- ---- gaps
 
 -- Whether the gaps that start before `start` are too short, the next gap starts there, and the runs
@@ -165,15 +191,15 @@ module _ (n : ℕ) (free : Selection) (len start : ℕ) where
     -- The ranks of the next run are not free.
     taken : (rank : ℕ) → run.first ≤ rank → rank ≤ run.last → free rank ≡ false
     taken rank from to =
-        let later = left.later.0 in
+        let later = left.later.starts in
         left.same rank (omega (arith, later, from))
         ∙ ap not (members-head run rest rank from to)
 
     -- The gap up to the next run is maximal.
     gap-maximal : IsMaximalRun n free (from_to start end)
     gap-maximal =
-        let later = left.later.0 in
-        let order = left.later.1 in
+        let later = left.later.starts in
+        let order = left.later.in_order in
         let last = All-head (λ (each : Interval). each.last < n) run rest left.within in
         record {
           in_order = omega (arith, later, ends);
@@ -182,7 +208,12 @@ module _ (n : ℕ) (free : Selection) (len start : ℕ) where
               let bounds = covers-bounds (from_to start end) rank here in
               left.same rank bounds.0
               ∙ ap not (members-below run.first (run ∷ rest) rank
-              (omega arith, left.later.1, left.later.2) (omega (arith, bounds.1, ends)));
+              (record {
+                starts = omega arith;
+                in_order = left.later.in_order;
+                rest = left.later.rest;
+              })
+              (omega (arith, bounds.1, ends)));
           begins_here = left.begins;
           ends_here = λ more. taken (end + 1) (omega (arith, ends)) (omega (arith, ends, order));
         }
@@ -202,16 +233,16 @@ module _ (n : ℕ) (free : Selection) (len start : ℕ) where
     pub gaps-next : length_of (from_to start end) < len → (next : ℕ) → next ≡ run.last + 1 → next < n
         → AreGapsPassed n free len next rest
     gaps-next short next past known = record {
-      later = canonical-lower (run.last + 2) (next + 1) rest (omega (arith, past)) left.later.2;
+      later = canonical-lower (run.last + 2) (next + 1) rest (omega (arith, past)) left.later.rest;
       within = All-tail (λ (each : Interval). each.last < n) run rest left.within;
       in_type = known;
       same = λ rank more.
-          let order = left.later.1 in
-          let later = left.later.0 in
+          let order = left.later.in_order in
+          let later = left.later.starts in
           left.same rank (omega (arith, more, past, order, later))
           ∙ ap not (members-tail run rest rank (inr (omega (arith, more, past))));
       begins = λ some.
-          let order = left.later.1 in
+          let order = left.later.in_order in
           taken (next - 1) (omega (arith, past, order)) (omega (arith, past));
       shorter = gaps-short short next past;
     }
@@ -252,13 +283,13 @@ module _ (n : ℕ) (runs : List Interval) (canonical : IsCanonicalIn n runs) whe
     pub past-later : IsCanonicalFrom (start + 1) (runs_past start runs)
     past-later =
         canonical-raise 0 (start + 1) (runs_past start runs)
-        (starting-canonical_in (λ first. nat_lt start first) n runs canonical).0
+        (starting-canonical_in (λ first. nat_lt start first) n runs canonical).apart
         (λ run found.
         let is = (starting-contains (λ first. nat_lt start first) runs run found).1 in
         grind (arith, nat_tests, is))
 
     pub past-within : AllEndBelow n (runs_past start runs)
-    past-within = (starting-canonical_in (λ first. nat_lt start first) n runs canonical).1
+    past-within = (starting-canonical_in (λ first. nat_lt start first) n runs canonical).within
 
     -- From the free rank on, they have the members of all runs.
     past-same : (rank : ℕ) → start ≤ rank → members (runs_past start runs) rank ≡ members runs rank
@@ -347,11 +378,60 @@ module _ (n : ℕ) (runs : List Interval) (value len start : ℕ) (from : value 
 
 -- ---- what callers know of a gap that fits
 
-module _ (n : ℕ) (runs : List Interval) (value len : ℕ) (gap : Interval)
-    (fit : IsFirstFit n (free_from value runs) len gap) where
-  -- The gap starts at the value or past it.
-  pub fit-from : value ≤ gap.first
-  fit-from =
-      let order = fit.maximal.in_order in
-      let free = fit.maximal.whole gap.first (covers-inside gap gap.first (omega arith) order) in
-      grind (arith, nat_tests, free)
+module _ (n : ℕ) (runs : List Interval) (value len : ℕ) where
+  module _ (gap : Interval) (fit : IsFirstFit n (free_from value runs) len gap) where
+    -- The gap starts at the value or past it.
+    pub fit-from : value ≤ gap.first
+    fit-from =
+        let free = first-selected n (free_from value runs) gap fit.maximal in
+        grind (arith, nat_tests, free)
+
+    -- If a gap of one rank is long enough, all ranks from the value to the gap are members.
+    pub fit-before : len ≤ 1 → (rank : ℕ) → value ≤ rank → rank < gap.first
+        → members runs rank ≡ true
+    fit-before any rank from before =
+        let order = fit.maximal.in_order in
+        let within = fit.maximal.in_type in
+        let taken = none-before n (free_from value runs) len gap.first any fit.first rank before
+        (omega (arith, before, order, within)) in
+        grind (arith, nat_tests, taken, from)
+
+    -- The first rank of the gap is not a member, so not all ranks from the value on are.
+    pub fit-lacks : HasAllFrom n runs value → ⊥
+    fit-lacks all =
+        let order = fit.maximal.in_order in
+        let within = fit.maximal.in_type in
+        let free = first-selected n (free_from value runs) gap fit.maximal in
+        let member = all gap.first fit-from (omega (arith, order, within)) in
+        grind (arith, nat_tests, free, member)
+
+  -- If there is no gap, all ranks from the value on are members.
+  pub none-lacks : len ≤ 1 → AllShorter n (free_from value runs) len → HasAllFrom n runs value
+  none-lacks any shorter rank from below =
+      let taken = none-at_all n (free_from value runs) len any shorter rank below in
+      grind (arith, nat_tests, taken, from)
+
+-- ---- what callers know of a run that fits
+
+module _ (n : ℕ) (runs : List Interval) (len : ℕ) where
+  module _ (run : Interval) (fit : IsFirstFit n (members runs) len run) where
+    -- If a run of one rank is long enough, no rank before the run is a member.
+    pub fit-after : len ≤ 1 → (rank : ℕ) → rank < run.first → members runs rank ≡ false
+    fit-after any rank before =
+        let order = fit.maximal.in_order in
+        let within = fit.maximal.in_type in
+        none-before n (members runs) len run.first any fit.first rank before
+        (omega (arith, before, order, within))
+
+    -- The first rank of the run is a member.
+    pub fit-some : IsEmpty (members runs) → ⊥
+    fit-some none = not_both (members runs run.first)
+        (first-selected n (members runs) run fit.maximal) (none run.first)
+
+  -- If there is no run, no rank is a member.
+  pub none-runs : IsCanonicalIn n runs → len ≤ 1 → AllShorter n (members runs) len
+      → IsEmpty (members runs)
+  none-runs canonical any shorter rank = elim (cases_lt rank n) [
+    | inl below ↦ none-at_all n (members runs) len any shorter rank below
+    | inr past ↦ members-end n runs rank canonical.within past
+  ]

@@ -26,10 +26,10 @@ pub canonical-below : (n low : ℕ) (runs : List Interval) → IsCanonicalFrom l
 canonical-below n low [] canonical below = tt
 canonical-below n low (run ∷ runs) canonical below =
     let Ends : Interval → Type 0 = λ each. each.last < n in (
-      canonical.0,
-      canonical.1,
+      canonical.starts,
+      canonical.in_order,
       All-head Ends run runs below,
-      canonical-below n (run.last + 2) runs canonical.2 (All-tail Ends run runs below),
+      canonical-below n (run.last + 2) runs canonical.rest (All-tail Ends run runs below),
     )
 
 -- A list that is canonical from a rank on is also canonical from a lower one on.

@@ -10,7 +10,7 @@ use Rattle.rsb_integer.specs.Rank.{interval_of}
 use Rattle.rsb_integer.specs.Runs.{Interval, covers, length_of, members, IsCanonicalIn}
 use Rattle.rsb_integer.proofs.lemmas.Range.{interval_of-some}
 use Rattle.rsb_integer.proofs.lemmas.Canonical.{canonical-front, canonical-parts}
-use Rattle.rsb_streams.specs.StreamLaws.{settled_canonical_in}
+use Rattle.rsb_streams.specs.laws.Stream.{settled_canonical_in}
 use Rattle.rsb_streams.specs.Stream.{Outcomes, ◌⊆◌, run_if_any, HasOutcome}
 use Rattle.rsb_storage.specs.Storage.{entry_run, runs_of}
 use Rattle.rsb_storage.proofs.lemmas.runs.Storage.{sum_by-within}
@@ -30,7 +30,7 @@ module _ (n : ℕ) (all after : Outcomes) (canonical : all ⊆ IsCanonicalIn n)
 
   -- So the run is non-empty.
   pub taken-ordered : run.first ≤ run.last
-  taken-ordered = (canonical-parts 0 taken (run ∷ []) taken-canonical.0).1.1
+  taken-ordered = (canonical-parts 0 taken (run ∷ []) taken-canonical.apart).1.in_order
 
   -- All of them together have at most n ranks.
   pub taken-within : sum_by length_of taken + length_of run ≤ n

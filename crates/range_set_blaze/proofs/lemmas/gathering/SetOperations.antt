@@ -22,7 +22,7 @@ pub set-of_runs : (n : ℕ) (selected : Selection) (set : List Interval)
 set-of_runs n selected set ends are rank = elim (cases_lt rank n) [
   | inl below ↦ runs-members n selected set are rank below
   | inr past ↦
-      members-end n set rank (runs-canonical n selected set are).1 past ∙ sym (ends rank past)
+      members-end n set rank (runs-canonical n selected set are).within past ∙ sym (ends rank past)
 ]
 
 module _ (n : ℕ) {E : Type 0} (result : Result (List Interval) E) (gives : Outcomes)
@@ -64,8 +64,8 @@ module _ (n : ℕ) {E : Type 0} (result : Result (List Interval) E) (gives : Out
         settled_runs n selected set (λ fails. by_two set may (λ first second at too all.
         fails (rw (is first at, also second too) at all))) in (
           IfOk-weaker result _ _ (λ set may. set-of_runs n selected set (λ rank past. nothing rank
-              (members-end n these rank (runs-canonical n (members these) these one).1 past)
-              (members-end n those rank (runs-canonical n (members those) those other).1 past))
+              (members-end n these rank (runs-canonical n (members these) these one).within past)
+              (members-end n those rank (runs-canonical n (members those) those other).within past))
               (are set may)) made,
           IfOk-weaker result _ _ (λ set may. bounds set (are set may)) made,
         )

@@ -63,7 +63,7 @@ module _ {T : Type 0} (rank : T → ℕ) (n : ℕ) (runs : List Interval)
             | inl within ↦
                 none-gap n runs canonical bound none
                 (rank joined.end + 1) (omega (arith, bound_is, same, within))
-            | inr past ↦ members-end n runs (rank joined.end + 1) canonical.1 past
+            | inr past ↦ members-end n runs (rank joined.end + 1) canonical.within past
           ],
           (λ point from to. absurd (omega (arith, from, to, same))),
         )
@@ -91,7 +91,7 @@ module _ {T : Type 0} (rank : T → ℕ) (n : ℕ) (runs : List Interval)
                       last-gap n runs canonical bound
                       (run_of rank last) found (rank joined.end + 1) (omega (arith, same, less))
                       (omega (arith, bound_is, same, in_type))
-                  | inr past ↦ members-end n runs (rank joined.end + 1) canonical.1 past
+                  | inr past ↦ members-end n runs (rank joined.end + 1) canonical.within past
                 ],
                 (λ point from to. absurd (omega (arith, from, to, same))),
               )

@@ -164,7 +164,7 @@ module _ {T : Type 0} (rank : T → ℕ) (n : ℕ) (runs : List Interval)
         ap (λ (items : List Interval). members items point)
         (sym (with_run-without_start (run_of rank joining.joined) runs))
         ∙ with_run-members n 0 (run_of rank joining.joined)
-        (without_start (rank joining.joined.start) runs) point (rises left.0 left.1)
+        (without_start (rank joining.joined.start) runs) point (rises left.apart left.within)
         (λ run found same.
         let other = (starting-contains (λ start. not (start == rank joining.joined.start)) runs
         run found).1 in grind (arith, nat_tests, other, same))

@@ -21,7 +21,7 @@ module _ (n : ℕ) (now : List Interval) (joined : Interval) (others : ℕ)
   over-members rank =
       rw over.parts
       (with_run-members n 0 joined over.rest rank
-      (canonical-rises n 0 over.rest over.canonical.0 over.canonical.1) over.elsewhere)
+      (canonical-rises n 0 over.rest over.canonical.apart over.canonical.within) over.elsewhere)
 
   -- A run that starts inside the joined one is one of the others.
   pub inside-rest : (run : Interval) → IsInside now joined run → Contains over.rest run
@@ -100,8 +100,8 @@ module _ (n : ℕ) (now : List Interval) (joined : Interval) (others : ℕ)
       let all = over-members rank in
       let some = ap (λ (items : List Interval). members items rank) (without-parts run inside)
       ∙ with_run-members n 0 joined (without_start run.first over.rest) rank
-      (canonical-rises n 0 (without_start run.first over.rest) joins.fewer_canonical.0
-      joins.fewer_canonical.1)
+      (canonical-rises n 0 (without_start run.first over.rest) joins.fewer_canonical.apart
+      joins.fewer_canonical.within)
       (λ other found. over.elsewhere other
       (starting-contains (λ start. not (start == run.first)) over.rest other found).0) in
       elim (true_or_false (covers run rank)) [

@@ -38,7 +38,7 @@ module _ (made : ℕ → ℕ → List ℕ) (n : ℕ) (whole : List Interval) (of
   made-from low more [] all from maximal same =
       made-passed low more more n 0 all (omega arith) (λ rank past to. same rank past) ∙ ended n
   made-from low more (run ∷ runs) all from maximal same =
-      let starts = from.0 in
+      let starts = from.starts in
       let here = maximal 0 run (omega arith) in
       let below = here.in_type in
       let ordered = here.in_order in
@@ -46,17 +46,18 @@ module _ (made : ℕ → ℕ → List ℕ) (n : ℕ) (whole : List Interval) (of
       λ rank past. same rank (omega arith) ∙ members-tail run runs rank (inr past) in
       made-passed low more (run.first - low) run.first (n - run.first) (omega arith) (omega arith)
       (λ rank past to. same rank past
-      ∙ members-below run.first (run ∷ runs) rank (omega arith, ordered, from.2) to)
+      ∙ members-below run.first (run ∷ runs) rank
+      (record { starts = omega arith; in_order = ordered; rest = from.rest }) to)
       ∙ run-made run here (later (suc run.last) (omega arith)
-      ∙ members-below (run.last + 2) runs (suc run.last) from.2 (omega arith))
+      ∙ members-below (run.last + 2) runs (suc run.last) from.rest (omega arith))
       ∙ ap (λ rest. of run ++ rest)
       (made-from (suc run.last) (n - suc run.last) runs (omega arith)
-      (canonical-lower (run.last + 2) (suc run.last) runs (omega arith) from.2)
+      (canonical-lower (run.last + 2) (suc run.last) runs (omega arith) from.rest)
       (All-tail (IsMaximalRun n (members whole)) run runs maximal)
       (λ rank past. later rank (omega arith)))
 
   -- From 0 on, all runs of the list add theirs.
   pub made-canonical : made 0 n ≡ flat_map of whole
   made-canonical =
-      made-from 0 n whole (omega arith) canonical.0
-      (canonical-maximal n 0 whole canonical.0 canonical.1) (λ rank past. refl)
+      made-from 0 n whole (omega arith) canonical.apart
+      (canonical-maximal n 0 whole canonical.apart canonical.within) (λ rank past. refl)

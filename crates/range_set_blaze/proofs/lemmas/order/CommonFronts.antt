@@ -15,7 +15,7 @@ use Rattle.rsb_integer.proofs.lemmas.Members.{covers-inside, same_interval}
 use Rattle.rsb_storage.specs.Storage.{run_of, runs_of}
 use Rattle.rsb_storage.specs.declared.run.Run.{Run}
 use Rattle.range_set_blaze.specs.Order.{elements_from, order, start_alike, AreTurns}
-use Rattle.range_set_blaze.specs.OrderLaws.{nat_cmp-greater, nat_cmp-same}
+use Rattle.range_set_blaze.specs.laws.Order.{nat_cmp-greater, nat_cmp-same}
 use Rattle.range_set_blaze.proofs.lemmas.order.AlongRuns.{made-canonical}
 
 -- The given number of ranks, starting at `low`.
@@ -80,7 +80,7 @@ slice_cmp-shorter rank low lower count zero bound entries others same fewer past
     absurd (omega arith)
 slice_cmp-shorter rank low lower zero (suc most) bound [] others same fewer past rest = refl
 slice_cmp-shorter rank low lower zero (suc most) bound (entry ∷ entries) others same fewer past rest =
-    let starts = rest.0 in
+    let starts = rest.starts in
     rw (nat_cmp-greater lower (rank entry.0) (omega arith)) (grind (arith, nat_tests))
 slice_cmp-shorter rank low lower (suc count) (suc most) bound entries others same fewer past rest =
     rw (same, nat_cmp-same lower)
@@ -203,10 +203,10 @@ module _ {T : Type 0} {rank : T → ℕ} {n : ℕ} {cmp : T → T → Ordering}
   heads-ranked : (cmp run.start other.start ≡ nat_cmp (rank run.start) (rank other.start))
       × (cmp run.end other.end ≡ nat_cmp (rank run.end) (rank other.end))
   heads-ranked =
-      let ordered = passing.left_rest.0.1 in
-      let order = passing.right_rest.0.1 in
-      let below = passing.left_rest.1 0 (run_of rank run) (omega arith) in
-      let also = passing.right_rest.1 0 (run_of rank other) (omega arith) in
+      let ordered = passing.left_rest.apart.in_order in
+      let order = passing.right_rest.apart.in_order in
+      let below = passing.left_rest.within 0 (run_of rank run) (omega arith) in
+      let also = passing.right_rest.within 0 (run_of rank other) (omega arith) in
       (in_order _ _ (omega arith) (omega arith), in_order _ _ below also)
 
   -- If the next two runs have different starts, these determine the order.
@@ -227,13 +227,13 @@ module _ {T : Type 0} {rank : T → ℕ} {n : ℕ} {cmp : T → T → Ordering}
         (cond (nat_lt 0 (length left)) Greater Less) (turns + 1 + 1)
     unfolding elements_from
     left-tells is =
-        let ordered = passing.left_rest.0.1 in
+        let ordered = passing.left_rest.apart.in_order in
         let ends : rank run.end < rank other.end = ranked _ _ Less (is ∙ heads-ranked.1) in
         let starts = same_start in
         passing-tells one two passing (λ same alike. absurd (omega arith))
         (slice_cmp-shorter rank _ _ (suc (rank run.end - rank run.start))
         (suc (rank other.end - rank other.start)) _ left (elements_of (runs_of rank right)) starts
-        (omega arith) (omega arith) passing.left_rest.0.2)
+        (omega arith) (omega arith) passing.left_rest.apart.rest)
         (grind (arith, nat_tests))
 
     -- If the run of the right list ends first, the runs after that one do.
@@ -241,13 +241,13 @@ module _ {T : Type 0} {rank : T → ℕ} {n : ℕ} {cmp : T → T → Ordering}
         (ordering_reverse (cond (nat_lt 0 (length right)) Greater Less)) (turns + 1 + 1)
     unfolding elements_from
     right-tells is =
-        let ordered = passing.right_rest.0.1 in
+        let ordered = passing.right_rest.apart.in_order in
         let ends : rank other.end < rank run.end = ranked _ _ Greater (is ∙ heads-ranked.1) in
         let starts = same_start in
         passing-tells one two passing (λ same alike. absurd (omega arith))
         (ap ordering_reverse (slice_cmp-shorter rank _ _ (suc (rank other.end - rank other.start))
         (suc (rank run.end - rank run.start)) _ right (elements_of (runs_of rank left)) (sym starts)
-        (omega arith) (omega arith) passing.right_rest.0.2)
+        (omega arith) (omega arith) passing.right_rest.apart.rest)
         ∙ sym (nat_list_cmp_total.antisymm (elements_of (run_of rank run ∷ runs_of rank left))
         (elements_of (run_of rank other ∷ runs_of rank right))))
         (grind (arith, nat_tests))

@@ -5,6 +5,7 @@ use Rattle.std.proofs.lemmas.Option.{get_or_from_slice_get, slice_get_within}
 use Rattle.std.proofs.lemmas.List.Elements.{All-cons, All-nil}
 use Rattle.rsb_integer.specs.Runs.{Interval, members, AllEndBelow, IsCanonical, IsCanonicalFrom, IsCanonicalIn}
 use Rattle.rsb_integer.specs.Selection.{Selection, count, IsUniversal, IsEmpty}
+use Rattle.rsb_integer.proofs.lemmas.Canonical.{canonical-none}
 use Rattle.rsb_integer.proofs.lemmas.Count.{count-all, count-less, count-none, count-within}
 use Rattle.rsb_integer.proofs.lemmas.List.{not_both, true_or_false}
 use Rattle.rsb_integer.proofs.lemmas.Members.{covers-inside, members-below, members-end, members-head}
@@ -19,17 +20,17 @@ pub ends-last : (low i : ℕ) (runs : List Interval) (run : Interval) → IsCano
     → (low ≤ (get_or runs i run).last) × AllEndBelow ((get_or runs i run).last + 1) runs
 ends-last low i [] run canonical last = absurd (omega (arith, last))
 ends-last low zero (first ∷ []) run canonical last =
-    let starts = canonical.0 in
-    let ordered = canonical.1 in (
+    let starts = canonical.starts in
+    let ordered = canonical.in_order in (
       omega arith,
       All-cons (λ (each : Interval). each.last < first.last + 1) first [] (omega arith)
           (All-nil (λ (each : Interval). each.last < first.last + 1)),
     )
 ends-last low zero (first ∷ second ∷ runs) run canonical last = absurd (omega (arith, last))
 ends-last low (suc i) (first ∷ runs) run canonical last =
-    let rest = ends-last (first.last + 2) i runs run canonical.2 (omega (arith, last)) in
-    let starts = canonical.0 in
-    let ordered = canonical.1 in
+    let rest = ends-last (first.last + 2) i runs run canonical.rest (omega (arith, last)) in
+    let starts = canonical.starts in
+    let ordered = canonical.in_order in
     let past = rest.0 in (
       omega arith,
       All-cons (λ (each : Interval). each.last < (get_or runs i run).last + 1) first runs
@@ -39,7 +40,7 @@ ends-last low (suc i) (first ∷ runs) run canonical last =
 -- No runs and the length 0 represent the empty set.
 pub kept-nil : (n kept : ℕ) → kept ≡ 0 → IsKept n [] kept
 kept-nil n kept none = record {
-  canonical = (tt, All-nil (λ (each : Interval). each.last < n));
+  canonical = canonical-none n;
   length = none ∙ sym (count-none n (members []) (λ point below. refl));
 }
 
@@ -50,7 +51,7 @@ module _ (n : ℕ) (runs : List Interval) (run : Interval) (canonical : IsCanoni
   pub first-least : StartsWith runs run → IsLeast n (members runs) run.first
   first-least starts =
       let all = subst (IsCanonicalIn n) starts.parts canonical in
-      let maximal = canonical-maximal n 0 (run ∷ starts.rest) all.0 all.1 0 run (omega arith) in
+      let maximal = canonical-maximal n 0 (run ∷ starts.rest) all.apart all.within 0 run (omega arith) in
       let ordered = maximal.in_order in
       let below = maximal.in_type in
       rw starts.parts (record {
@@ -60,7 +61,7 @@ module _ (n : ℕ) (runs : List Interval) (run : Interval) (canonical : IsCanoni
           | inl before ↦
               absurd (not_both _ member
               (members-below run.first (run ∷ starts.rest) other
-              (omega arith, ordered, all.0.2) before))
+              (record { starts = omega arith; in_order = ordered; rest = all.apart.rest }) before))
           | inr from ↦ from
         ];
       })
@@ -71,8 +72,8 @@ module _ (n : ℕ) (runs : List Interval) (run : Interval) (canonical : IsCanoni
   last-greatest found =
       let i = length runs - 1 in
       let some = slice_get_within runs i run found in
-      let maximal = canonical-maximal n 0 runs canonical.0 canonical.1 i run some in
-      let ends = ends-last 0 i runs run canonical.0 (omega (arith, some)) in
+      let maximal = canonical-maximal n 0 runs canonical.apart canonical.within i run some in
+      let ends = ends-last 0 i runs run canonical.apart (omega (arith, some)) in
       let ordered = maximal.in_order in
       subst (λ (each : Interval). IsGreatest n (members runs) each.last)
       (get_or_from_slice_get runs i run run found) (record {
@@ -88,7 +89,7 @@ module _ (n : ℕ) (runs : List Interval) (run : Interval) (canonical : IsCanoni
 pub nothing-kept : (runs : List Interval) → IsCanonical runs → (runs ≡ []) ↔ IsEmpty (members runs)
 nothing-kept [] canonical = ((λ none point. refl), (λ nothing. refl))
 nothing-kept (run ∷ runs) canonical =
-    let here = members-head run runs run.first (omega arith) canonical.1 in
+    let here = members-head run runs run.first (omega arith) canonical.in_order in
     ((λ none. absurd (cc)), (λ nothing. absurd (not_both _ here (nothing _))))
 
 -- A set has n members below n exactly if it has each rank below n.

@@ -69,7 +69,7 @@ pub run_bounds-canonical : (n : ℕ) (runs : List Interval) → IsCanonicalIn n 
 unfolding bounds_from
 run_bounds-canonical n runs canonical =
     ap (λ selected. bounds_from selected 0 n)
-    (λ i rank. selected_below-members n runs canonical.1 rank i)
+    (λ i rank. selected_below-members n runs canonical.within rank i)
     ∙ made-canonical (bounds_from (members runs)) n runs (λ run. run.first ∷ run.last ∷ [])
     canonical (λ low. refl) (λ rank left lacks. rw lacks refl) (λ run maximal stops.
     let ordered = maximal.in_order in

@@ -6,7 +6,7 @@ use Rattle.std.specs.declared.cmp.Ordering.TheVariants.{Less, Equal, Greater}
 use Rattle.rsb_integer.specs.Selection.{Selection, Agree}
 use Rattle.rsb_integer.proofs.lemmas.List.{not_both}
 use Rattle.range_set_blaze.specs.Order.{DiffersAt, HasLater, HasOrder, IsLess}
-use Rattle.range_set_blaze.specs.OrderLaws.{less-not}
+use Rattle.range_set_blaze.specs.laws.Order.{less-not}
 
 -- If two sets agree below a point, the least rank at which they differ is not below it.
 differs-from : (n rank point : ℕ) (left right : Selection) → DiffersAt n left right rank

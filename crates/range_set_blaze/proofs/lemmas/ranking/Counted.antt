@@ -18,7 +18,7 @@ count-next bound low run rest canonical =
     let both = count-union bound (members (run ∷ rest)) (covers run) (members rest)
     (members-cons run rest)
     (λ rank here. let bounds = covers-bounds run rank here in
-    members-below (run.last + 2) rest rank canonical.2 (omega (arith, bounds.1))) in
+    members-below (run.last + 2) rest rank canonical.rest (omega (arith, bounds.1))) in
     let one = count-covers bound run in
     omega (arith, both, one)
 
@@ -44,12 +44,12 @@ module _ (n : ℕ) (all rest : List Interval) (run : Interval) (bound counted : 
     -- The sum stays the same once the part of the next run is counted.
     counted-sum : counted + length_of part + count bound (members rest) ≡ count bound (members all)
     counted-sum =
-        let next = count-next bound 0 run rest left.canonical.0 in
+        let next = count-next bound 0 run rest left.canonical.apart in
         let sum = left.sum in
         let first = is.first in
         let last = is.last in
         let some = is.some in
-        let order = left.canonical.0.1 in
+        let order = left.canonical.apart.in_order in
         omega (arith, next, sum, first, last, some, order)
 
     -- The number that was counted, with this part, is at most n.
@@ -71,7 +71,11 @@ module _ (n : ℕ) (all rest : List Interval) (run : Interval) (bound counted : 
   pub counted-past : bound ≤ run.first → counted ≡ count bound (members all)
   counted-past less =
       let none = count-below bound run.first (run ∷ rest)
-      (omega arith, left.canonical.0.1, left.canonical.0.2) less in
+      (record {
+        starts = omega arith;
+        in_order = left.canonical.apart.in_order;
+        rest = left.canonical.apart.rest;
+      }) less in
       let sum = left.sum in
       omega (arith, none, sum)
 
@@ -101,13 +105,13 @@ module _ (n : ℕ) (all rest : List Interval) (run : Interval) (wanted left : �
   -- If the next run has at most `left` members, it is passed.
   pub left-next : (less : ℕ) → less + length_of run ≡ left → AreLeft n all rest wanted less
   left-next less passed =
-      let starts = are.later.0 in
-      let order = are.later.1 in
+      let starts = are.later.starts in
+      let order = are.later.in_order in
       let last = All-head (λ (each : Interval). each.last < n) run rest are.within in
       record {
         from = run.last + 1;
         in_type = omega (arith, last);
-        later = canonical-lower (run.last + 2) (run.last + 1) rest (omega arith) are.later.2;
+        later = canonical-lower (run.last + 2) (run.last + 1) rest (omega arith) are.later.rest;
         within = All-tail (λ (each : Interval). each.last < n) run rest are.within;
         same = λ rank more.
             are.same rank (omega (arith, starts, order, more))
@@ -122,16 +126,16 @@ module _ (n : ℕ) (all rest : List Interval) (run : Interval) (wanted left : �
     -- Otherwise the wanted member is in it.
     pub left-member : members all rank ≡ true
     left-member =
-        let starts = are.later.0 in
+        let starts = are.later.starts in
         are.same rank (omega (arith, starts, is))
         ∙ members-head run rest rank (omega (arith, is)) (omega (arith, is, fewer))
 
     pub left-below : count rank (members all) ≡ wanted
     left-below =
-        let starts = are.later.0 in
+        let starts = are.later.starts in
         let sum = are.counted rank (omega (arith, starts, is)) in
         let next = count-next rank are.from run rest are.later in
-        let none = count-below rank (run.last + 2) rest are.later.2 (omega (arith, is, fewer)) in
+        let none = count-below rank (run.last + 2) rest are.later.rest (omega (arith, is, fewer)) in
         omega (arith, sum, next, none, is, fewer)
 
   -- In this case, more than `wanted` ranks are members.

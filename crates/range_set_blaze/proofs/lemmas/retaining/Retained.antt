@@ -44,26 +44,26 @@ starting-parts : (low : ℕ) (front : List Interval) (run : Interval) (rest : Li
     × (without_start run.first (front ++ run ∷ rest) ≡ front ++ rest)
     × (runs_past run.last (front ++ run ∷ rest) ≡ rest)
 starting-parts low [] run rest canonical =
-    let ordered = canonical.1 in
+    let ordered = canonical.in_order in
     let here : (run.first == run.first) ≡ true = grind (arith, nat_tests) in
     let not_past : nat_lt run.last run.first ≡ false = grind (arith, nat_tests, ordered) in
     let later : (other : Interval) → Contains rest other → run.last + 2 ≤ other.first =
     λ other. All-contains (λ (each : Interval). run.last + 2 ≤ each.first) rest other
-    (canonical-starts (run.last + 2) rest canonical.2) in (
-      canonical.0,
-      canonical.1,
+    (canonical-starts (run.last + 2) rest canonical.rest) in (
+      canonical.starts,
+      canonical.in_order,
       rw here (starting-all (λ start. not (start == run.first)) rest
           (λ other found. let from = later other found in grind (arith, nat_tests, from, ordered))),
       rw not_past (starting-all (λ start. nat_lt run.last start) rest
           (λ other found. let from = later other found in grind (arith, nat_tests, from))),
     )
 starting-parts low (first ∷ front) run rest canonical =
-    let more = starting-parts (first.last + 2) front run rest canonical.2 in
+    let more = starting-parts (first.last + 2) front run rest canonical.rest in
     let differs : (first.first == run.first) ≡ false =
-    grind (arith, nat_tests, canonical.1, more.0) in
+    grind (arith, nat_tests, canonical.in_order, more.0) in
     let not_past : nat_lt run.last first.first ≡ false =
-    grind (arith, nat_tests, canonical.1, more.0, more.1) in (
-      omega (arith, canonical.0, canonical.1, more.0),
+    grind (arith, nat_tests, canonical.in_order, more.0, more.1) in (
+      omega (arith, canonical.starts, canonical.in_order, more.0),
       more.1,
       rw differs (ap (λ (runs : List Interval). first ∷ runs) more.2),
       rw not_past more.3,
@@ -173,7 +173,7 @@ module _ {F T : Type 0} (rank : T → ℕ) (n : ℕ)
         × (fewer ≡ count n (members after))
     next-one true after fewer is less =
         let parts = starting-parts 0 before.kept (run_of rank run) before.next_is.rest
-        (subst (IsCanonicalIn n) next-parts before.canonical).0 in
+        (subst (IsCanonicalIn n) next-parts before.canonical).apart in
         rw is (
           next-parts ∙ sym (append_assoc before.kept (run_of rank run ∷ []) before.next_is.rest),
           inr ([], refl, refl),
@@ -183,7 +183,7 @@ module _ {F T : Type 0} (rank : T → ℕ) (n : ℕ)
         )
     next-one false after fewer is less =
         let parts = starting-parts 0 before.kept (run_of rank run) before.next_is.rest
-        (subst (IsCanonicalIn n) next-parts before.canonical).0 in
+        (subst (IsCanonicalIn n) next-parts before.canonical).apart in
         let ordered = parts.1 in
         rw is (
           ap (without_start (rank run.start)) next-parts ∙ rw (parts.2, append-nil before.kept) refl,

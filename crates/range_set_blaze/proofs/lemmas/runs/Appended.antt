@@ -21,12 +21,12 @@ canonical-append : (low bound : ℕ) (runs others : List Interval) → low ≤ b
 canonical-append low bound [] others within canonical below from =
     canonical-lower (bound + 1) low others within from
 canonical-append low bound (run ∷ runs) others within canonical below from =
-    let here = All-head (λ (each : Interval). each.last < bound) run runs below in (
-      canonical.0,
-      canonical.1,
-      canonical-append (run.last + 2) bound runs others (omega (arith, here)) canonical.2
-          (All-tail (λ (each : Interval). each.last < bound) run runs below) from,
-    )
+    let here = All-head (λ (each : Interval). each.last < bound) run runs below in record {
+      starts = canonical.starts;
+      in_order = canonical.in_order;
+      rest = canonical-append (run.last + 2) bound runs others (omega (arith, here)) canonical.rest
+          (All-tail (λ (each : Interval). each.last < bound) run runs below) from;
+    }
 
 module _ (n : ℕ) (low high : List Interval) (lower : IsCanonicalIn n low)
     (upper : IsCanonicalIn n high) where
@@ -39,13 +39,16 @@ module _ (n : ℕ) (low high : List Interval) (lower : IsCanonicalIn n low)
       let within = slice_get_within low i last found in
       let is = get_or_from_slice_get low i last last found in
       let ends = subst (λ (each : Interval). AllEndBelow (each.last + 1) low) is
-      (ends-last 0 i low last lower.0 (omega (arith, within))).1 in
-      let from = subst (IsCanonicalFrom 0) starts.parts upper.0 in (
-        canonical-append 0 (last.last + 1) low high (omega arith) lower.0 ends
-            (subst (IsCanonicalFrom (last.last + 1 + 1)) (sym starts.parts)
-            (omega (arith, past), from.1, from.2)),
-        All-append (λ (each : Interval). each.last < n) low high lower.1 upper.1,
-      )
+      (ends-last 0 i low last lower.apart (omega (arith, within))).1 in
+      let from = subst (IsCanonicalFrom 0) starts.parts upper.apart in record {
+        apart = canonical-append 0 (last.last + 1) low high (omega arith) lower.apart ends
+            (subst (IsCanonicalFrom (last.last + 1 + 1)) (sym starts.parts) (record {
+              starts = omega (arith, past);
+              in_order = from.in_order;
+              rest = from.rest;
+            }));
+        within = All-append (λ (each : Interval). each.last < n) low high lower.within upper.within;
+      }
 
   -- The lists one after the other have as many members as both together.
   pub appended-kept : (least most both : ℕ) → IsCanonicalIn n (low ++ high) → IsKept n low least

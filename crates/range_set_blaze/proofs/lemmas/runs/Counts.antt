@@ -15,8 +15,8 @@ module _ (n : ℕ) (old new : List Interval) (before : IsCanonicalIn n old)
       → Adds old new (covers run) → HasOneRunMoreAtMost old new
   run_count-added run ordered below adds =
       runs-with_interval n (members old) run old new ordered below
-      (canonical-runs n old before.0 before.1)
-      (runs-from_canonical n (union (members old) (covers run)) new after.0 after.1
+      (canonical-runs n old before.apart before.within)
+      (runs-from_canonical n (union (members old) (covers run)) new after.apart after.within
       (λ rank within. adds rank))
 
   -- Removing the ranks of a run makes at most one run more.
@@ -24,8 +24,8 @@ module _ (n : ℕ) (old new : List Interval) (before : IsCanonicalIn n old)
       → Removes old new (covers run) → HasOneRunMoreAtMost old new
   run_count-without run ordered below removes =
       runs-without_interval n (members old) run old new ordered below
-      (canonical-runs n old before.0 before.1)
-      (runs-from_canonical n (difference (members old) (covers run)) new after.0 after.1
+      (canonical-runs n old before.apart before.within)
+      (runs-from_canonical n (difference (members old) (covers run)) new after.apart after.within
       (λ rank within. removes rank))
 
   -- Removing one rank makes at most one run more.

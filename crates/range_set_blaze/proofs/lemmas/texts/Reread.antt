@@ -215,7 +215,7 @@ module _ {T : Type 0} (rank : T → ℕ) (n : ℕ) (value_at : ℕ → T)
       let first = ranks run.first (omega arith) in
       let last = ranks run.last within in
       (omega (arith, first), omega (arith, last)))
-      runs (canonical-maximal n 0 runs canonical.0 canonical.1)
+      runs (canonical-maximal n 0 runs canonical.apart canonical.within)
 
   intervals-of_runs : (selected : Selection) (runs : List Interval) → All (IsMaximalRun n selected) runs
       → intervals_of rank (ranges_of_runs runs) ≡ runs
@@ -243,7 +243,7 @@ module _ {T : Type 0} (rank : T → ℕ) (n : ℕ) (value_at : ℕ → T)
       → IsSetOf set (members (intervals_of rank (ranges_of_runs runs))) → set ≡ runs
   set-reread set runs are canonical has =
       let same = intervals-of_runs (members runs) runs
-      (canonical-maximal n 0 runs canonical.0 canonical.1) in
+      (canonical-maximal n 0 runs canonical.apart canonical.within) in
       runs-same n (members set) (members runs) set runs are
-      (canonical-runs n runs canonical.0 canonical.1)
+      (canonical-runs n runs canonical.apart canonical.within)
       (λ place below. has place ∙ ap (λ (intervals : List Interval). members intervals place) same)

@@ -25,4 +25,4 @@ returns g c =
     let few = c.in_ok-deep.ensures.run_count positive in
     given-list streams few.0 (λ each. GivesRunsOfAllAtMost c.args.k n stream.may_give each gives)
     few.1.0 few.1.3 few.2) in
-    record { members = known.0; exactly = known.1; run_count = known.2 }
+    record { members = known.0; exactly = known.1; run_count = known.2; given = known.3 }

@@ -1,4 +1,7 @@
-use Rattle.range_set_blaze.proofs.lemmas.gathering.ManySets.{given-list, known-made}
+use Rattle.std.specs.Prelude.{⊤}
+use Rattle.std.proofs.lemmas.List.Elements.{All-weaker}
+use Rattle.rsb_integer.specs.Runs.{IsCanonicalIn}
+use Rattle.range_set_blaze.proofs.lemmas.gathering.ManySets.{odd_of-none, given-list, known-all}
 use Rattle.rsb_integer.specs.Selection.{odd_of}
 use Rattle.rsb_many.specs.MultiwayResults.{MakesMultiwaySymmetricDifference}
 use Rattle.rsb_many.specs.MultiwaySymmetricDifference.{multiway_symmetric_difference}
@@ -11,7 +14,12 @@ returns g c =
     let gave = c.in_ok-difference.ensures.made in
     let made = given-list streams gave.0 (λ each. MakesMultiwaySymmetricDifference g.T.Integer g.S.Stream.Draw
     (multiway_symmetric_difference g.T.Integer g.S.Stream.Draw) each c.in_ok-difference.difference) gave.1.0 gave.1.3 gave.2 in
-    known-made g.T.Integer.value_count g.S.Stream.Draw.may_give g.S.GivesRuns.given g.met.S.GivesRuns.known
+    let known = known-all g.T.Integer.value_count g.S.Stream.Draw.may_give g.S.GivesRuns.given g.met.S.GivesRuns.known
     g.K.IntoIterator.into_iter_gives g.K.IntoIter.Iterator.next_gives c.args.sets g.S.GivesRuns.shown
     streams c.in_ok-streams.ensures.given c.from_sorted_disjoint.result _
-    c.from_sorted_disjoint.ensures.runs odd_of made.gives
+    c.from_sorted_disjoint.ensures.runs odd_of made.gives (λ sets. ⊤)
+    (All-weaker g.S.Stream.Draw.can_draw
+    (λ s. IsCanonicalIn g.T.Integer.value_count (g.S.GivesRuns.given s))
+    g.met.S.GivesRuns.canonical streams c.in_ok-streams.ensures.ready)
+    (λ rank some none. odd_of-none _ rank none) in
+    record { members = known.0; given = λ sets gives. known.2 sets gives tt }

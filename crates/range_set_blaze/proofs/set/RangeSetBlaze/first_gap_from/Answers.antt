@@ -1,5 +1,7 @@
+use Rattle.std.proofs.Common.{refl}
+use Rattle.std.proofs.lemmas.Bool.{true≢false}
 use Rattle.rsb_storage.specs.Storage.{run_of}
-use Rattle.range_set_blaze.proofs.lemmas.fitting.FirstFits.{fit-from, none-anywhere, none-lower}
+use Rattle.range_set_blaze.proofs.lemmas.fitting.FirstFits.{fit-before, fit-from, fit-lacks, none-anywhere, none-lacks, none-lower}
 use Rattle.range_set_blaze.proofs.set.RangeSetBlaze.first_gap_from.Goals as goal
 
 -- If every gap is shorter, no block fits.
@@ -23,3 +25,28 @@ returns-clause-from g c =
     (fit-from _ c.args.self.now (g.T.Integer.rank c.args.value) _
     (run_of g.T.Integer.rank c.in_ok-gap.gap)
     (rw (c.known.ensures.same, c.self.view_is) at c.in_ok-gap.ensures))
+
+-- If a gap of one value is long enough, only members lie between the value and the gap.
+pub returns-clause-before : goal.returns-clause-before
+returns-clause-before g c = λ any rank from before.
+    fit-before _ c.args.self.now (g.T.Integer.rank c.args.value) _
+    (run_of g.T.Integer.rank c.in_ok-gap.gap)
+    (rw (c.known.ensures.same, c.self.view_is) at c.in_ok-gap.ensures) any rank from
+    (rw c.new.ensures.start at before)
+
+-- If there is no gap, all values from the given one on are members.
+pub returns-in_err-gap-clause-full : goal.returns-in_err-gap-clause-full
+returns-in_err-gap-clause-full g c = λ any. (
+  (λ none. none-lacks _ c.args.self.now (g.T.Integer.rank c.args.value) _ any
+      (rw (c.known.ensures.same, c.self.view_is) at c.in_err-gap.ensures)),
+  (λ all. rw c.from_residual.ensures refl),
+)
+
+-- If there is one, its first value is not.
+pub returns-clause-full : goal.returns-clause-full
+returns-clause-full g c = λ any. (
+  (λ none. absurd (true≢false none)),
+  (λ all. absurd (fit-lacks _ c.args.self.now (g.T.Integer.rank c.args.value) _
+      (run_of g.T.Integer.rank c.in_ok-gap.gap)
+      (rw (c.known.ensures.same, c.self.view_is) at c.in_ok-gap.ensures) all)),
+)

@@ -10,8 +10,8 @@ pub returns-in-Some-clause-runs : goal.returns-in-Some-clause-runs
 returns-in-Some-clause-runs g c = λ has.
     let gaps = c.gaps_between.ensures in
     let runs = c.self.inside.runs in
-    rw (← c.self.view_is) (runs-from_canonical g.T.Integer.value_count _ _ gaps.canonical.0
-    gaps.canonical.1 (λ point below. gaps.members point
+    rw (← c.self.view_is) (runs-from_canonical g.T.Integer.value_count _ _ gaps.canonical.apart
+    gaps.canonical.within (λ point below. gaps.members point
     ∙ ap (λ test. test && not (members runs point))
     (grind (arith, nat_tests, c.in-Some.ensures.start has, c.in-Some.ensures.end has))))
 

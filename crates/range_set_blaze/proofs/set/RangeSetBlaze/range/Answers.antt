@@ -27,7 +27,7 @@ returns g c =
           ap (λ runs. members runs point) c.into_iter-2.ensures.into_iter_gives
           ∙ c.in_ok-set.ensures.members set (run ∷ []) (λ runs at. at ∙ c.ranges-2.ensures.ranges)
           (λ runs at. c.new-bounds.ensures.gives runs at ∙ one)
-          (canonical-runs n set ready.0 ready.1) (canonical-runs n (run ∷ []) single.0 single.1)
+          (canonical-runs n set ready.apart ready.within) (canonical-runs n (run ∷ []) single.apart single.within)
           point
           ∙ ap (λ test. members set point && test)
           (grind (arith, nat_tests, c.in-Some.ensures.start has, c.in-Some.ensures.end has));

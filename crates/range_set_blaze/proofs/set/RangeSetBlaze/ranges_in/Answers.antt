@@ -10,8 +10,8 @@ pub returns-in-Some-clause-runs : goal.returns-in-Some-clause-runs
 returns-in-Some-clause-runs g c = λ has.
     let window = c.runs_between.ensures in
     let runs = c.self.inside.runs in
-    rw (← c.self.view_is) (runs-from_canonical g.T.Integer.value_count _ _ window.canonical.0
-    window.canonical.1 (λ point below. window.members point ∙ ap (λ test. members runs point && test)
+    rw (← c.self.view_is) (runs-from_canonical g.T.Integer.value_count _ _ window.canonical.apart
+    window.canonical.within (λ point below. window.members point ∙ ap (λ test. members runs point && test)
     (grind (arith, nat_tests, c.in-Some.ensures.start has, c.in-Some.ensures.end has))))
 
 -- If no value is between the bounds, there are no runs.

@@ -5,4 +5,4 @@ use Rattle.range_set_blaze.proofs.set.RangeSetBlaze.ranges_len.Goals as goal
 pub returns-clause-runs : goal.returns-clause-runs
 returns-clause-runs g c =
     let canonical = c.self.invariant.canonical in
-    rw (← c.self.view_is) (canonical-runs _ _ canonical.0 canonical.1)
+    rw (← c.self.view_is) (canonical-runs _ _ canonical.apart canonical.within)

@@ -1,4 +1,4 @@
-use Rattle.range_set_blaze.specs.OrderLaws.{order-holds}
+use Rattle.range_set_blaze.specs.laws.Order.{order-holds}
 use Rattle.range_set_blaze.proofs.set.order.cmp_counted.Goals as goal
 
 -- The order of two sets by their elements is that by the least rank at which they differ.

@@ -1,4 +1,4 @@
-use Rattle.range_set_blaze.specs.OrderLaws.{agree-same, order-holds, same-agree}
+use Rattle.range_set_blaze.specs.laws.Order.{agree-same, order-holds, same-agree}
 use Rattle.range_set_blaze.proofs.set.order.order_by_least_difference.Goals as goal
 
 -- `==` returns whether the sets agree at every rank.

@@ -11,7 +11,7 @@ part_below-requires-clause-run g c =
     let rank = g.T.Integer.rank in
     All-head (λ (each : Interval). each.last < g.T.Integer.value_count)
     (run_of rank c.in-Some.run') (runs_of rank c.next_run.new.entries)
-    (rw c.in-Some.ensures at c.loop-run.invariant).canonical.1
+    (rw c.in-Some.ensures at c.loop-run.invariant).canonical.within
 
 -- If none of it is below the value, all members below the value are counted.
 pub returns-in_default-part_below : goal.returns-in_default-part_below

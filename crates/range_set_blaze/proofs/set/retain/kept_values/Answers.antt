@@ -14,7 +14,7 @@ loop-left-init g c =
     left_runs-next rank c.next_run-left.result c.iter-entries.result c.next_run-left.new.entries
     c.next_run-left.ensures ∙ c.iter-entries.ensures.runs in
     rw (all, c.new-kept.ensures) (record {
-      canonical = canonical-below g.T.Integer.value_count 0 old canonical.0 canonical.1;
+      canonical = canonical-below g.T.Integer.value_count 0 old canonical.apart canonical.within;
       order = tt;
       value = omega arith;
       empty = λ none. (none, refl);

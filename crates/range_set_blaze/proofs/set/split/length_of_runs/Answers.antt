@@ -8,7 +8,7 @@ use Rattle.range_set_blaze.proofs.set.split.length_of_runs.Goals as goal
 -- The runs that are left are canonical.
 pub add_length-requires-clause-some : goal.add_length-requires-clause-some
 add_length-requires-clause-some g c =
-    (rw c.in-Some.ensures at c.loop-run.invariant.canonical).0.1
+    (rw c.in-Some.ensures at c.loop-run.invariant.canonical).apart.in_order
 
 pub add_length-requires-clause-fits : goal.add_length-requires-clause-fits
 add_length-requires-clause-fits g c =

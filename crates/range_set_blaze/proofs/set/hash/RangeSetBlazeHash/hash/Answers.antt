@@ -25,6 +25,7 @@ returns g c =
       g.met.T.SafeLen.SafeLength.lengths c.self.inside.length (omega (arith, few, counted, laws.lengths_suffice)),
       ← c.iter.ensures.runs,
       run_bounds-canonical n runs canonical,
-      ← entries-fed rank n g.T.Integer.value_at placed g.T.Hash.hash_input (members runs) c.iter.result (canonical-maximal n 0 runs canonical.0 canonical.1),
+      ← entries-fed rank n g.T.Integer.value_at placed g.T.Hash.hash_input (members runs) c.iter.result
+          (canonical-maximal n 0 runs canonical.apart canonical.within),
     )
     (fed_then g.H.Hasher.write _ c.hash.new.state _ (g.T.SafeLen.Hash.hash_input _) _ c.hash.ensures c.feed_runs.ensures)

@@ -1,4 +1,4 @@
-use Rattle.range_set_blaze.specs.OrderLaws.{order-holds}
+use Rattle.range_set_blaze.specs.laws.Order.{order-holds}
 use Rattle.range_set_blaze.proofs.lemmas.order.OneOrder.{order-unique}
 use Rattle.range_set_blaze.proofs.set.order.RangeSetBlazeOrd.cmp.Goals as goal
 

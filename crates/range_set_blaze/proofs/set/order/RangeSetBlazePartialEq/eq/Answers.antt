@@ -1,5 +1,5 @@
 use Rattle.std.proofs.Common.{sym}
-use Rattle.range_set_blaze.specs.OrderLaws.{sets_ties}
+use Rattle.range_set_blaze.specs.laws.Order.{sets_ties}
 use Rattle.range_set_blaze.proofs.set.order.RangeSetBlazePartialEq.eq.Goals as goal
 
 -- Two sets are equal exactly if `cmp` returns `Equal`.

@@ -19,6 +19,6 @@ returns-clause-writes g c =
       ← c.self.view_is,
       ← c.iter.ensures.runs,
       ← items-runs rank n g.T.Integer.value_at placed g.T.Debug.debug_output (members runs) [] c.iter.result
-          (canonical-maximal n 0 runs canonical.0 canonical.1),
+          (canonical-maximal n 0 runs canonical.apart canonical.within),
     )
     c.write_runs.ensures

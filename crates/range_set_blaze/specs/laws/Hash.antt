@@ -9,7 +9,7 @@ use Rattle.rsb_integer.specs.Runs.{Interval, members}
 use Rattle.rsb_integer.specs.Selection.{Selection, Agree}
 use Rattle.rsb_integer.proofs.lemmas.Count.{count-agree}
 use Rattle.range_set_blaze.specs.Hash.{selected_below, bounds_from, hashed_runs}
-use Rattle.range_set_blaze.specs.OrderLaws.{set_eq, same-agree}
+use Rattle.range_set_blaze.specs.laws.Order.{set_eq, same-agree}
 
 -- A rank of n or more is not below n.
 nat_lt-past : (rank n : ℕ) → n ≤ rank → nat_lt rank n ≡ false
