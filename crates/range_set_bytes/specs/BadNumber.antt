@@ -5,6 +5,10 @@ use Rattle.range_set_bytes.specs.declared.numbers.BadNumber.{BadNumber}
 use Rattle.range_set_bytes.specs.declared.numbers.Wrong.{Wrong}
 use Rattle.range_set_bytes.specs.declared.numbers.Wrong.TheVariants.{Ended, Large, Zero}
 
+-- The byte after `taken` others of a number, and what is wrong with it.
+abbrev pub bad_at : ℕ → Wrong → BadNumber
+bad_at taken wrong = record { taken = taken; wrong = wrong }
+
 module _ (least most : ℕ) (bytes : List ℕ) where
   -- What is wrong with the byte at this place. If the number ends too early, there is none.
   abbrev pub IsWrong : Wrong → ℕ → Type 0

@@ -4,7 +4,7 @@
 pub mod fault;
 pub mod laws;
 mod lengths;
-mod numbers;
+pub mod numbers;
 pub mod ranked_integer;
 pub mod read;
 pub mod write;

@@ -1,7 +1,19 @@
 //! Numbers in LEB128.
 
-ghost use Rattle.std.specs.Prelude.{◌≡◌, ◌++◌, ◌≤◌, IfErr, IfOk, OnOk};
-ghost use Rattle.range_set_bytes.specs.BadNumber.{IsBadNumber};
+ghost use Rattle.std.specs.Prelude.{
+  ◌≡◌,
+  ◌++◌,
+  ◌∷◌,
+  ◌≤◌,
+  ℕ,
+  List,
+  IfErr,
+  IfOk,
+  IfSome,
+  IsNone,
+  OnOk,
+};
+ghost use Rattle.range_set_bytes.specs.BadNumber.{bad_at, IsBadNumber};
 ghost use Rattle.range_set_bytes.specs.Leb128.{leb128};
 
 use std::alloc::{AllocError, Allocator};
@@ -55,17 +67,8 @@ pub fn read_number(bytes: &[u8], least: u128, most: u128) -> Result<(u128, &[u8]
         });
     };
     let byte = u128::from(*first);
-    if byte > most {
-        return Err(BadNumber {
-            taken: 0,
-            wrong: Wrong::Large,
-        });
-    }
-    if byte < least {
-        return Err(BadNumber {
-            taken: 0,
-            wrong: Wrong::Zero,
-        });
+    if let Some(wrong) = wrong_byte(*first, least, most) {
+        return Err(BadNumber { taken: 0, wrong });
     }
     if byte < 128 {
         return Ok((byte, after));
@@ -78,4 +81,23 @@ pub fn read_number(bytes: &[u8], least: u128, most: u128) -> Result<(u128, &[u8]
             wrong: bad.wrong,
         }),
     }
+}
+
+/// Returns what is wrong with the first byte of a number, or `None` if one may begin with it. The
+/// number is to be from `least`, which is 0 or 1, to `most`.
+pub fn wrong_byte(byte: u8, least: u128, most: u128) -> Option<Wrong>
+    requires low { least ≤ 1 }
+    requires some { least ≤ most }
+    ensures wrong { IfSome result (λ wrong. (after : List ℕ)
+        → IsBadNumber least most (byte ∷ after) (bad_at 0 wrong)) }
+    ensures none { IsNone result → (least ≤ byte) × (byte ≤ most) }
+{
+    let byte = u128::from(byte);
+    if byte > most {
+        return Some(Wrong::Large);
+    }
+    if byte < least {
+        return Some(Wrong::Zero);
+    }
+    None
 }

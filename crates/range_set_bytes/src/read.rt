@@ -1,7 +1,25 @@
 //! Reads a set from bytes.
 
 ghost use Rattle.std.specs.declared.alloc.AllocError.{AllocError as Refused};
-ghost use Rattle.std.specs.Prelude.{◌≡◌, ◌≢◌, ℕ, ◌+◌, ◌++◌, ◌<◌, ◌≤◌, ◌^◌, List, [], ◌∷◌, IfErr, IfOk, IsOk, Some, None, length};
+ghost use Rattle.std.specs.Prelude.{
+  ◌≡◌,
+  ◌≢◌,
+  ℕ,
+  ◌+◌,
+  ◌++◌,
+  ◌<◌,
+  ◌≤◌,
+  ◌^◌,
+  List,
+  [],
+  ◌∷◌,
+  IfErr,
+  IfOk,
+  IsOk,
+  Some,
+  None,
+  length,
+};
 ghost use Rattle.rsb_integer.specs.Rank.{intervals_of};
 ghost use Rattle.rsb_integer.specs.Runs.{from_to, Interval, IsCanonicalIn};
 ghost use Rattle.range_set_bytes.specs.Fault.{HasReason, IsFault};
@@ -9,7 +27,15 @@ ghost use Rattle.range_set_bytes.specs.Format.{bytes_of, header, IsWritable};
 ghost use Rattle.range_set_bytes.specs.Leb128.{leb128};
 ghost use Rattle.range_set_bytes.specs.declared.fault.Fault.{Fault as TheFault};
 ghost use Rattle.range_set_bytes.specs.declared.fault.ReadError.TheVariants.{Invalid, NoMemory};
-ghost use Rattle.range_set_bytes.specs.Reading.{BeginsWithRun, ExpectsNumber, ExpectsRuns, HasRun, IsExpected, least_gap as least_gap_of, reason_of};
+ghost use Rattle.range_set_bytes.specs.Reading.{
+  BeginsWithRun,
+  ExpectsNumber,
+  ExpectsRuns,
+  HasRun,
+  IsExpected,
+  least_gap as least_gap_of,
+  reason_of,
+};
 
 use crate::fault::{Fault, ReadError, Reason};
 use crate::numbers::{BadNumber, Wrong, read_number};
@@ -142,8 +168,8 @@ fn next_run<'a, T: RankedInteger>(
     })
 }
 
-// Returns the least gap of a run, from the last rank of the run before it.
-fn least_gap(previous: Option<u128>) -> u128
+/// Returns the least gap of a run, from the last rank of the run before it.
+pub fn least_gap(previous: Option<u128>) -> u128
     ensures { result ≡ least_gap_of previous }
 {
     if previous.is_some() { 1 } else { 0 }
@@ -191,8 +217,8 @@ fn after_header<T: RankedInteger>(bytes: &[u8]) -> Result<&[u8], Fault>
     Ok(&bytes[header.len()..])
 }
 
-// Returns the reason if the byte at this place of the header is wrong.
-fn header_reason(place: usize) -> Reason
+/// Returns the reason if the byte at this place of the header is wrong.
+pub fn header_reason(place: usize) -> Reason
     requires { place < 6 }
     ensures { (n : ℕ) (bytes : List ℕ) → place < length bytes → HasReason n bytes result place }
 {
@@ -223,8 +249,8 @@ fn next_number<'a, T: RankedInteger>(
     }
 }
 
-// Returns what is wrong with a number that starts at a place.
-fn fault_at(start: usize, bad: BadNumber) -> Fault
+/// Returns what is wrong with a number that starts at a place.
+pub fn fault_at(start: usize, bad: BadNumber) -> Fault
     requires { start + bad.taken < 2 ^ 64 }
     ensures place { result.place ≡ start + bad.taken }
     ensures reason { result.reason ≡ reason_of bad.wrong bad.taken }

@@ -3,5 +3,7 @@
 mod element_types;
 mod failures;
 mod faults;
+mod from_streams;
+mod mutated;
 mod rows;
 mod streams;

@@ -26,7 +26,7 @@ module _ (n : ℕ) (bytes rest : List ℕ) (runs : List Interval) (previous : Op
     within = All-nil (λ (run : Interval). run.last < n);
   }
 
-  read-all : IsWritable n runs × (bytes_of n runs ≡ expected.read)
+  pub read-all : IsWritable n runs × (bytes_of n runs ≡ expected.read)
   read-all =
       let made = expected.may [] none-left in (
         subst (IsWritable n) (append-nil runs) made.0,
@@ -117,25 +117,30 @@ not-refused n bytes fault wrong runs writable is =
       | inr past ↦ wrong.first.ends (omega arith) runs writable (sym is)
     ]
 
-same-runs : (from : ℕ) (runs others : List Interval) → length runs ≡ length others
+-- The runs, and what follows their bytes, are determined by these bytes.
+same-runs : (from : ℕ) (runs others : List Interval) (x y : List ℕ) → length runs ≡ length others
     → IsCanonicalFrom from runs → IsCanonicalFrom from others
-    → bytes_of_runs from runs ≡ bytes_of_runs from others → runs ≡ others
-same-runs from [] [] counted canonical other is = refl
-same-runs from [] (run ∷ others) counted canonical other is = absurd (omega (arith, counted))
-same-runs from (run ∷ runs) [] counted canonical other is = absurd (omega (arith, counted))
-same-runs from (run ∷ runs) (run' ∷ others) counted canonical other is =
-    let gap = one_number (run.first - from) (run'.first - from)
-    (leb128 (run.last - run.first) ++ bytes_of_runs (run.last + 1) runs)
-    (leb128 (run'.last - run'.first) ++ bytes_of_runs (run'.last + 1) others) is in
+    → bytes_of_runs from runs ++ x ≡ bytes_of_runs from others ++ y → runs ≡ others
+same-runs from [] [] x y counted canonical other is = refl
+same-runs from [] (run ∷ others) x y counted canonical other is = absurd (omega (arith, counted))
+same-runs from (run ∷ runs) [] x y counted canonical other is = absurd (omega (arith, counted))
+same-runs from (run ∷ runs) (run' ∷ others) x y counted canonical other is =
+    let gaps = one_number (run.first - from) (run'.first - from)
+    ((leb128 (run.last - run.first) ++ bytes_of_runs (run.last + 1) runs) ++ x)
+    ((leb128 (run'.last - run'.first) ++ bytes_of_runs (run'.last + 1) others) ++ y)
+    (sym (append_assoc (leb128 (run.first - from)) _ x) ∙ is
+    ∙ append_assoc (leb128 (run'.first - from)) _ y) in
     let long = one_number (run.last - run.first) (run'.last - run'.first)
-    (bytes_of_runs (run.last + 1) runs) (bytes_of_runs (run'.last + 1) others) gap.1 in
-    let first : run.first ≡ run'.first = low-same from run.first run'.first canonical.0 other.0 gap.0 in
-    let last : run.last ≡ run'.last = last-same run.first run.last run'.first run'.last first canonical.1 other.1 long.0 in
+    (bytes_of_runs (run.last + 1) runs ++ x) (bytes_of_runs (run'.last + 1) others ++ y)
+    (sym (append_assoc (leb128 (run.last - run.first)) _ x) ∙ gaps.1
+    ∙ append_assoc (leb128 (run'.last - run'.first)) _ y) in
+    let first : run.first ≡ run'.first = low-same from run.first run'.first canonical.starts other.starts gaps.0 in
+    let last : run.last ≡ run'.last = last-same run.first run.last run'.first run'.last first canonical.in_order other.in_order long.0 in
     let one : run ≡ run' = λ i. from_to (first i) (last i) in
-    let more = same-runs (run'.last + 1) runs others (omega (arith, counted))
-    (canonical-lower (run.last + 2) (run'.last + 1) runs (omega (arith, last)) canonical.2)
-    (canonical-lower (run'.last + 2) (run'.last + 1) others (omega arith) other.2)
-    (ap (λ (k : ℕ). bytes_of_runs (k + 1) runs) (sym last) ∙ long.1) in
+    let more = same-runs (run'.last + 1) runs others x y (omega (arith, counted))
+    (canonical-lower (run.last + 2) (run'.last + 1) runs (omega (arith, last)) canonical.rest)
+    (canonical-lower (run'.last + 2) (run'.last + 1) others (omega arith) other.rest)
+    (ap (λ (k : ℕ). bytes_of_runs (k + 1) runs ++ x) (sym last) ∙ long.1) in
     λ i. one i ∷ more i
   where
     low-same : (from a b : ℕ) → from ≤ a → from ≤ b → a - from ≡ b - from → a ≡ b
@@ -145,15 +150,24 @@ same-runs from (run ∷ runs) (run' ∷ others) counted canonical other is =
         → last - first ≡ last' - first' → last ≡ last'
     last-same first last first' last' same ordered other is = omega arith
 
+-- The bytes of no set begin with those of another one.
+pub same-start : (n : ℕ) (runs others : List Interval) (x y : List ℕ) → IsWritable n runs
+    → IsWritable n others → bytes_of n runs ++ x ≡ bytes_of n others ++ y → runs ≡ others
+unfolding bytes_of
+same-start n runs others x y writable other is =
+    let tails = append_cancel_left (header n) ((leb128 (length runs) ++ bytes_of_runs 0 runs) ++ x)
+    ((leb128 (length others) ++ bytes_of_runs 0 others) ++ y)
+    (sym (append_assoc (header n) _ x) ∙ is ∙ append_assoc (header n) _ y) in
+    let counted = one_number (length runs) (length others) (bytes_of_runs 0 runs ++ x)
+    (bytes_of_runs 0 others ++ y) (sym (append_assoc (leb128 (length runs)) _ x) ∙ tails
+    ∙ append_assoc (leb128 (length others)) _ y) in
+    same-runs 0 runs others x y counted.0 writable.canonical.apart other.canonical.apart counted.1
+
 -- Different sets have different bytes.
 pub same-bytes : (n : ℕ) (runs others : List Interval) → IsWritable n runs → IsWritable n others
     → bytes_of n runs ≡ bytes_of n others → runs ≡ others
-unfolding bytes_of
 same-bytes n runs others writable other is =
-    let tails = append_cancel_left (header n) (leb128 (length runs) ++ bytes_of_runs 0 runs)
-    (leb128 (length others) ++ bytes_of_runs 0 others) is in
-    let counted = one_number (length runs) (length others) (bytes_of_runs 0 runs) (bytes_of_runs 0 others) tails in
-    same-runs 0 runs others counted.0 writable.canonical.0 other.canonical.0 counted.1
+    same-start n runs others [] [] writable other (ap (λ (bytes : List ℕ). bytes ++ []) is)
 
 -- ---- empty lists
 

@@ -27,7 +27,10 @@ expects-count n bytes rest some parts = record {
         singles 0 count,
         bytes_of_runs 0 (singles 0 count),
         record {
-          canonical = (singles-canonical 0 count, singles-within n 0 count (λ more. omega arith));
+          canonical = record {
+            apart = singles-canonical 0 count;
+            within = singles-within n 0 count (λ more. omega arith);
+          };
           counted = omega arith;
         },
         rw counted refl,
@@ -45,7 +48,7 @@ expects-count n bytes rest some parts = record {
     count-most : (n : ℕ) (runs : List Interval) → IsWritable n runs → length runs ≤ most_runs n
     count-most n [] writable = omega arith
     count-most n (run ∷ runs) writable =
-        let room = runs-room n 0 run runs writable.canonical.0 writable.canonical.1 in
+        let room = runs-room n 0 run runs writable.canonical.apart writable.canonical.within in
         let counted = writable.counted in
         omega arith
 
@@ -60,7 +63,7 @@ expects-first n bytes rest after count some parts most is = record {
   parts = parts ∙ ap (λ (tail : List ℕ). header n ++ tail) is ∙ sym (append_assoc (header n) (leb128 count) after);
   past_header = omega (arith, length-append (header n) (leb128 count));
   may = λ more continues. (
-    record { canonical = (continues.canonical, continues.within); counted = omega (arith, continues.counted) },
+    record { canonical = record { apart = continues.canonical; within = continues.within }; counted = omega (arith, continues.counted) },
     ap (λ (k : ℕ). header n ++ (leb128 k ++ bytes_of_runs 0 more)) continues.counted
         ∙ sym (append_assoc (header n) (leb128 count) (bytes_of_runs 0 more)),
   );
@@ -70,7 +73,7 @@ expects-first n bytes rest after count some parts most is = record {
       let number = one_number (length all) count (bytes_of_runs 0 all) tail rest_is in (
         all,
         refl,
-        record { counted = number.0; canonical = writable.canonical.0; within = writable.canonical.1 },
+        record { counted = number.0; canonical = writable.canonical.apart; within = writable.canonical.within },
         sym number.1,
       );
   room = λ more. omega arith;
@@ -99,7 +102,7 @@ module _ (n : ℕ) (bytes rest : List ℕ) (runs : List Interval) (previous : Op
       let room = expected.room (omega arith) in
       record {
         counted = ap suc (singles-length (last + 2) count);
-        canonical = (low, ordered, singles-canonical (last + 2) count);
+        canonical = record { starts = low; in_order = ordered; rest = singles-canonical (last + 2) count };
         within = All-cons (λ (run : Interval). run.last < n) (from_to first last) (singles (last + 2) count)
             (omega arith) (singles-within n (last + 2) count (λ some. omega arith));
       }
@@ -127,8 +130,8 @@ module _ (n : ℕ) (bytes rest : List ℕ) (runs : List Interval) (previous : Op
         others = others;
         whole = whole;
         continues = continues;
-        low = continues.canonical.0;
-        ordered = continues.canonical.1;
+        low = continues.canonical.starts;
+        ordered = continues.canonical.in_order;
         high = omega arith;
         tail_is = tail_is;
       }
@@ -273,7 +276,11 @@ module _ (n : ℕ) (bytes rest : List ℕ) (runs : List Interval) (previous : Op
           may = λ more continues.
               let made = expected.may (from_to first last ∷ more) (record {
                 counted = ap suc continues.counted;
-                canonical = (omega arith, omega arith, subst (λ (k : ℕ). IsCanonicalFrom k more) (omega arith) continues.canonical);
+                canonical = record {
+                  starts = omega arith;
+                  in_order = omega arith;
+                  rest = subst (λ (k : ℕ). IsCanonicalFrom k more) (omega arith) continues.canonical;
+                };
                 within = All-cons (λ (run : Interval). run.last < n) (from_to first last) more (omega arith) continues.within;
               }) in
               let joined : (runs ++ (from_to first last ∷ [])) ++ more ≡ runs ++ (from_to first last ∷ more)
@@ -289,7 +296,7 @@ module _ (n : ℕ) (bytes rest : List ℕ) (runs : List Interval) (previous : Op
               let past = is-past all (leb128 number ++ tail) writable (is ∙ append_assoc front (leb128 number) tail) in
               let length_is = one_number number (past.last - first) tail (bytes_of_runs (past.last + 1) past.others) past.tail_is in
               let last_is : past.last ≡ last = let ordered = past.ordered in let same = length_is.0 in omega arith in
-              let canonical = past.continues.canonical.2 in (
+              let canonical = past.continues.canonical.rest in (
                 past.others,
                 rw (← last_is) (past.whole ∙ sym (append_assoc runs (from_to first past.last ∷ []) past.others)),
                 record {

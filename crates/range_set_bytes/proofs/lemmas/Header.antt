@@ -9,14 +9,14 @@ use Rattle.range_set_bytes.specs.Leb128.{leb128}
 use Rattle.range_set_bytes.specs.declared.fault.Fault.{Fault}
 
 -- The bytes of a set are the header and more.
-header-first : (n : ℕ) (runs : List Interval)
+pub header-first : (n : ℕ) (runs : List Interval)
     → bytes_of n runs ≡ header n ++ (leb128 (length runs) ++ bytes_of_runs 0 runs)
 unfolding bytes_of
 header-first n runs = refl
 
 empty-writable : (n : ℕ) → IsWritable n []
 empty-writable n = record {
-  canonical = (tt, All-nil (λ (run : Interval). run.last < n));
+  canonical = record { apart = tt; within = All-nil (λ (run : Interval). run.last < n) };
   counted = omega arith;
 }
 

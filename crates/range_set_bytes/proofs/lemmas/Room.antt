@@ -14,7 +14,8 @@ singles-length low (suc count) = ap suc (singles-length (low + 2) count)
 
 pub singles-canonical : (low count : ℕ) → IsCanonicalFrom low (singles low count)
 singles-canonical low zero = tt
-singles-canonical low (suc count) = (omega arith, omega arith, singles-canonical (low + 2) count)
+singles-canonical low (suc count) =
+    record { starts = omega arith; in_order = omega arith; rest = singles-canonical (low + 2) count }
 
 pub singles-within : (n low count : ℕ) → (0 < count → low + 2 * count ≤ n + 1)
     → AllEndBelow n (singles low count)
@@ -30,8 +31,8 @@ pub runs-room : (n low : ℕ) (run : Interval) (runs : List Interval) → IsCano
 runs-room n low run [] canonical within =
     omega (arith, All-head (λ (run : Interval). run.last < n) run [] within)
 runs-room n low run (next ∷ runs) canonical within =
-    let rest = runs-room n (run.last + 2) next runs canonical.2
+    let rest = runs-room n (run.last + 2) next runs canonical.rest
     (All-tail (λ (run : Interval). run.last < n) run (next ∷ runs) within) in
-    let after = canonical.2.0 in
-    let ordered = canonical.2.1 in
+    let after = canonical.rest.starts in
+    let ordered = canonical.rest.in_order in
     omega arith

@@ -3,7 +3,13 @@
 ghost use Rattle.std.specs.Prelude.{◌≡◌, [], ◌∷◌, IfOk};
 ghost use Rattle.std.proofs.Common.{lit<, lit≤, refl};
 ghost use Rattle.rsb_integer.specs.Room.{have_room};
-ghost use Rattle.test_bytes.specs.declared.bytes.element_types.Season.TheVariants.{Spring, Summer, Autumn, Winter, Rain};
+ghost use Rattle.test_bytes.specs.declared.bytes.element_types.Season.TheVariants.{
+  Spring,
+  Summer,
+  Autumn,
+  Winter,
+  Rain,
+};
 
 use super::faults::is_refused;
 use range_set_blaze::{Element, Enumerated, RangeSetBlaze};

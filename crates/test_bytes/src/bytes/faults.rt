@@ -6,7 +6,7 @@ use std::test::*;
 
 /// Bytes that are refused as a set of `u8`, the position of the first wrong one, and the reason:
 /// the rows of docs/FORMAT.md, and more.
-static REFUSED: [(&'static [u8], usize, Reason); 20] = [
+pub static REFUSED: [(&'static [u8], usize, Reason); 20] = [
     (&[], 0, Reason::CutShort),
     (&[0xF5], 1, Reason::CutShort),
     (&[0xF4, 0x52, 0x53, 0x42], 0, Reason::NotMagic),

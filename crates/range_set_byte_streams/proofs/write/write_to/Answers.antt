@@ -34,7 +34,7 @@ loop-range-init g c =
     record {
       ready = c.ranges-ranges.ensures.ready;
       finite = tt;
-      after = c.ranges-ranges.ensures.ready.0;
+      after = c.ranges-ranges.ensures.ready.apart;
       written = count-left _ _ (bytes_of n set) (c.begun-page.result.items ++ leb128 c.ranges_len.result)
           c.lay_number.new.page.items (bytes_of_runs 0 runs) whole c.in_ok-lay_number.ensures;
     }
@@ -53,7 +53,7 @@ returns-in_err-lay_number-2 g c =
     let after = subst (IsCanonicalFrom (from_of previous + least_gap previous)) split c.loop-range.invariant.after in
     let starts = c.to_rank-first.ensures.rank ∙ ap rank c.start.ensures in
     let ends = c.to_rank-last.ensures.rank ∙ ap rank c.end.ensures in
-    let run_is : run ≡ from_to first last = interval_of-some rank c.in-Some.range after.1
+    let run_is : run ≡ from_to first last = interval_of-some rank c.in-Some.range after.in_order
     ∙ (λ i. from_to (sym starts i) (sym ends i)) in
     let whole = bytes_of n c.args.set.now in
     let passed = err_from_is_err_and c.from_residual-in_err-lay_number-2.result c.from_residual-in_err-lay_number-2.ensures.1 in
@@ -75,7 +75,7 @@ returns-in_err-lay_number-3 g c =
     let after = subst (IsCanonicalFrom (from_of previous + least_gap previous)) split c.loop-range.invariant.after in
     let starts = c.to_rank-first.ensures.rank ∙ ap rank c.start.ensures in
     let ends = c.to_rank-last.ensures.rank ∙ ap rank c.end.ensures in
-    let run_is : run ≡ from_to first last = interval_of-some rank c.in-Some.range after.1
+    let run_is : run ≡ from_to first last = interval_of-some rank c.in-Some.range after.in_order
     ∙ (λ i. from_to (sym starts i) (sym ends i)) in
     let whole = bytes_of n c.args.set.now in
     let tail = bytes_of_runs (last + 1) rest in
@@ -101,9 +101,9 @@ loop-range-preserved g c =
     let after = subst (IsCanonicalFrom (from_of previous + least_gap previous)) split c.loop-range.invariant.after in
     let starts = c.to_rank-first.ensures.rank ∙ ap rank c.start.ensures in
     let ends = c.to_rank-last.ensures.rank ∙ ap rank c.end.ensures in
-    let run_is : run ≡ from_to first last = interval_of-some rank c.in-Some.range after.1
+    let run_is : run ≡ from_to first last = interval_of-some rank c.in-Some.range after.in_order
     ∙ (λ i. from_to (sym starts i) (sym ends i)) in
-    let past = subst (λ (r : Interval). IsCanonicalFrom (r.last + 2) rest) run_is after.2 in
+    let past = subst (λ (r : Interval). IsCanonicalFrom (r.last + 2) rest) run_is after.rest in
     let whole = bytes_of n c.args.set.now in
     let tail = bytes_of_runs (last + 1) rest in
     let left = run-left _ _ _ whole page (intervals_of rank c.loop-range.ranges) rest run (from_of previous)

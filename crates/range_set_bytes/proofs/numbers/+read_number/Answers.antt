@@ -1,7 +1,7 @@
-use Rattle.std.proofs.Common.{arith, ◌≡◌, ◌<◌, ◌-◌, ◌/◌, ◌∙◌, ap, ℕ, List, [], ◌∷◌, subst, refl}
+use Rattle.std.proofs.Common.{arith, rules, ◌≡◌, ◌<◌, ◌≤◌, ◌-◌, ◌/◌, ◌∙◌, ap, ℕ, List, [], ◌∷◌, subst, refl}
 use Rattle.std.proofs.lemmas.List.{nil_from_length}
 use Rattle.range_set_bytes.specs.BadNumber.{IsBadNumber}
-use Rattle.range_set_bytes.proofs.lemmas.Leb128.{bad-ended, bad-large, bad-more, bad-zero, leb128-byte, leb128-one}
+use Rattle.range_set_bytes.proofs.lemmas.Leb128.{bad-ended, bad-more, leb128-byte, leb128-one}
 use Rattle.range_set_bytes.proofs.numbers.+read_number.Goals as goal
 
 -- No byte is left.
@@ -9,19 +9,6 @@ pub returns-in_default-clause-bad : goal.returns-in_default-clause-bad
 returns-in_default-clause-bad t c =
     let none : c.args.bytes.now ≡ [] = nil_from_length c.args.bytes.now c.in_default.ensures.cases in
     rw none (bad-ended c.args.least c.args.most c.requires.some)
-
-pub returns-then-byte-most-clause-bad : goal.returns-then-byte-most-clause-bad
-returns-then-byte-most-clause-bad t c =
-    let first = c.in-Some.first.now in
-    let bytes = c.in-Some.ensures.cases.0 in
-    let fits : first < 256 = (rw bytes at (c.type_inv.bytes 0)).fits in
-    rw bytes (bad-large c.args.least c.args.most first c.in-Some.after.now c.requires.low
-    c.requires.some fits (omega (arith, c.from-byte.ensures, c.if-byte-most.true)))
-
-pub returns-then-byte-least-clause-bad : goal.returns-then-byte-least-clause-bad
-returns-then-byte-least-clause-bad t c = rw c.in-Some.ensures.cases.0
-    (bad-zero c.args.least c.args.most c.in-Some.first.now c.in-Some.after.now c.requires.some
-    (omega (arith, c.from-byte.ensures, c.if-byte-least.true)) c.requires.low)
 
 pub returns-then-byte-lt128-clause-read : goal.returns-then-byte-lt128-clause-read
 returns-then-byte-lt128-clause-read t c = c.in-Some.ensures.cases.0
@@ -45,7 +32,8 @@ returns-in-Err-clause-bad t c =
     let bytes = c.in-Some.ensures.cases.0 in
     let fits : first < 256 = (rw bytes at (c.type_inv.bytes 0)).fits in
     let same = c.from-byte.ensures in
+    let within : first ≤ c.args.most = search rules in
     rw bytes (bad-more c.args.least c.args.most first c.in-Some.after.now c.in-Err.bad c.requires.low
-    (omega (arith, c.if-byte-lt128.false)) fits (omega (arith, c.if-byte-most.false))
+    (omega (arith, c.if-byte-lt128.false)) fits within
     (subst (λ (byte : ℕ). IsBadNumber 1 ((c.args.most - (byte - 128)) / 128) c.in-Some.after.now c.in-Err.bad)
     same c.in-Err.ensures.bad))

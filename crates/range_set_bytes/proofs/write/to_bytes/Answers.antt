@@ -13,7 +13,7 @@ pub loop-range-init : goal.loop-range-init
 loop-range-init g c = record {
   ready = c.ranges-ranges.ensures.ready;
   finite = tt;
-  after = c.ranges-ranges.ensures.ready.0;
+  after = c.ranges-ranges.ensures.ready.apart;
   written = write-begun g.T.Integer.value_count c.args.set.now
       (intervals_of g.T.Integer.rank c.ranges-ranges.result) c.new-bytes.result.items c.header_of.result
       c.extend_from_slice.new.self.items c.push_number.new.bytes.items c.ranges_len.result
@@ -35,9 +35,9 @@ loop-range-preserved g c =
     let after = subst (IsCanonicalFrom (from_of previous + least_gap previous)) split c.loop-range.invariant.after in
     let starts = c.to_rank-first.ensures.rank ∙ ap rank c.start.ensures in
     let ends = c.to_rank-last.ensures.rank ∙ ap rank c.end.ensures in
-    let run_is : run ≡ from_to first last = interval_of-some rank c.in-Some.range after.1
+    let run_is : run ≡ from_to first last = interval_of-some rank c.in-Some.range after.in_order
     ∙ (λ i. from_to (sym starts i) (sym ends i)) in
-    let past = subst (λ (r : Interval). IsCanonicalFrom (r.last + 2) rest) run_is after.2 in
+    let past = subst (λ (r : Interval). IsCanonicalFrom (r.last + 2) rest) run_is after.rest in
     record {
       ready = canonical-tail n run rest ready;
       finite = tt;
