@@ -9,7 +9,7 @@ use Rattle.rsb_integer.specs.Runs.{Interval}
 use Rattle.rsb_streams.specs.Listed.{listed_may_give}
 use Rattle.rsb_streams.specs.Stream.{Keeps}
 use Rattle.rsb_streams.specs.Touching.{IsTouchingIn}
-use Rattle.rsb_streams.specs.TouchingLaws.{touching-lower}
+use Rattle.rsb_streams.specs.laws.Touching.{touching-lower}
 
 -- If the ranges that are left may touch but do not overlap, so do all that may be given, and the
 -- stream ends.
@@ -26,10 +26,10 @@ listed-touches rank n s touching = record {
 -- What follows the first of such intervals are such intervals.
 pub touching-tail : (n : ℕ) (run : Interval) (runs : List Interval) → IsTouchingIn n (run ∷ runs)
     → IsTouchingIn n runs
-touching-tail n run runs touching = (
-  touching-lower (run.last + 1) 0 runs (omega arith) touching.0.2,
-  All-tail (λ (other : Interval). other.last < n) run runs touching.1,
-)
+touching-tail n run runs touching = record {
+  spaced = touching-lower (run.last + 1) 0 runs (omega arith) touching.spaced.rest;
+  within = All-tail (λ (other : Interval). other.last < n) run runs touching.within;
+}
 
 -- A call that takes the first of them makes progress.
 pub touching-goes : {T : Type 0} (rank : T → ℕ) (n : ℕ) (before after : List (RangeInclusive T))

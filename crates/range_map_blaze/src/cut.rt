@@ -1,10 +1,38 @@
 //! Changes of lists of pieces at a key, and of those that start between two keys.
 
-ghost use Rattle.std.specs.Prelude.{◌≡◌, ◌+◌, ◌-◌, ◌<◌, ◌≤◌, ℕ, ◌++◌, None, Contains, IfOk, IfSome, MatchOption, OnErr, OnOk};
+ghost use Rattle.std.specs.Prelude.{
+  ◌≡◌,
+  ◌+◌,
+  ◌-◌,
+  ◌<◌,
+  ◌≤◌,
+  ℕ,
+  ◌++◌,
+  None,
+  Contains,
+  IfOk,
+  IfSome,
+  MatchOption,
+  OnErr,
+  OnOk,
+};
 ghost use Rattle.rsb_storage.specs.Storage.{run_of};
-ghost use Rattle.range_map_blaze.specs.Map.{value_at, IsJoinedEnd, IsJoinedStart, IsMapIn, IsPieceAround};
+ghost use Rattle.range_map_blaze.specs.Map.{
+  value_at,
+  IsJoinedEnd,
+  IsJoinedStart,
+  IsMapIn,
+  IsPieceAround,
+};
 ghost use Rattle.range_map_blaze.specs.Parts.{after, before};
-ghost use Rattle.range_map_blaze.specs.Storage.{pieces_below, pieces_from, pieces_past, without_inside, without_start, IsInside};
+ghost use Rattle.range_map_blaze.specs.Storage.{
+  pieces_below,
+  pieces_from,
+  pieces_past,
+  without_inside,
+  without_start,
+  IsInside,
+};
 
 use crate::map_value::MapValue;
 use crate::pieces::{Piece, Pieces};

@@ -3,10 +3,10 @@
 ghost use Rattle.std.specs.Iterator.{YieldsFirst, item_count};
 ghost use Rattle.rsb_integer.specs.Rank.{intervals_of};
 ghost use Rattle.rsb_streams.specs.Listed.{listed_may_give};
-ghost use Rattle.rsb_streams.specs.ListedLaws.{listed-answers};
-ghost use Rattle.rsb_streams.specs.StreamLaws.{drawn-itself};
+ghost use Rattle.rsb_streams.specs.laws.Listed.{listed-answers};
+ghost use Rattle.rsb_streams.specs.laws.Stream.{drawn-itself};
 ghost use Rattle.rsb_streams.specs.Touching.{IsTouchingIn};
-ghost use Rattle.rsb_streams.specs.TouchingLaws.{touching-starts};
+ghost use Rattle.rsb_streams.specs.laws.Touching.{touching-starts};
 ghost use Rattle.range_map_blaze.specs.KeyRanges.{listed-touches};
 
 use rsb_integer::Integer;

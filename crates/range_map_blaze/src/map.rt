@@ -9,11 +9,17 @@ ghost use Rattle.range_map_blaze.specs.Map.{keys, runs_of_keys, value_at, ArePie
 ghost use Rattle.range_map_blaze.specs.Storage.{pieces_in};
 
 mod collect;
+mod copy;
 mod extend;
 mod insert;
 mod look_up;
+mod operators;
+mod order;
 mod remove;
+mod retain;
 mod split;
+mod text;
+mod walks;
 mod with_sets;
 
 use crate::key_ranges::KeyRanges;
@@ -31,6 +37,9 @@ use std::marker::Model;
 #[derive(Drop)]
 pub struct RangeMapBlaze<T: Integer, V: MapValue, A: Allocator = Global> {
     pieces: Pieces<T, V, A>,
+    // The allocator of the pieces, which calls on this map use to make other maps and sets
+    // (docs/DECISIONS.md, allocator-parameter).
+    alloc: A,
 }
 
 impl<T: Integer, V: MapValue, A: Allocator> Model for RangeMapBlaze<T, V, A> {
@@ -45,14 +54,32 @@ impl<T: Integer, V: MapValue, A: Allocator> Model for RangeMapBlaze<T, V, A> {
     ghost invariant = { λ m. IsMapIn T.value_count m.pieces };
 }
 
-impl<T: Integer, V: MapValue, A: Allocator> RangeMapBlaze<T, V, A> {
+impl<T: Integer, V: MapValue, A: Allocator + Copy> RangeMapBlaze<T, V, A> {
     /// Returns the empty map. Does not allocate. (`RangeMapBlaze::new`.)
     pub fn new(alloc: A) -> Self
         ensures { result ≡ [] }
     {
         RangeMapBlaze {
             pieces: Pieces::new(alloc),
+            alloc,
         }
+    }
+
+    /// Returns the empty map. Does not allocate. (`Default` of `RangeMapBlaze`, whose `default`
+    /// takes no allocator.)
+    pub fn default(alloc: A) -> Self
+        ensures { result ≡ [] }
+    {
+        Self::new(alloc)
+    }
+}
+
+impl<T: Integer, V: MapValue, A: Allocator> RangeMapBlaze<T, V, A> {
+    /// Returns the allocator of the map. Calls on the map use it to make other maps and sets. Not in
+    /// range-set-blaze.
+    // No clause names the allocator: contracts see only the pieces (docs/DECISIONS.md, map-as-pieces).
+    pub fn allocator(&self) -> &A {
+        &self.alloc
     }
 
     /// Returns the number of ranges, which are the maximal ones with one value.

@@ -1,11 +1,37 @@
 //! The pieces of a map, in a `BTreeMap`.
 
-ghost use Rattle.std.specs.Prelude.{◌≡◌, ◌↔◌, ◌+◌, ◌<◌, [], length, IfOk, IsTrue, MatchOption, OnErr, OnOk};
+ghost use Rattle.std.specs.Prelude.{
+  ◌≡◌,
+  ◌↔◌,
+  ◌+◌,
+  ◌<◌,
+  [],
+  length,
+  fold,
+  IfOk,
+  IsTrue,
+  MatchOption,
+  OnErr,
+  OnOk,
+};
+ghost use Rattle.std.specs.Hash.{slice};
 ghost use Rattle.rsb_integer.specs.Rank.{intervals_of};
 ghost use Rattle.rsb_storage.specs.Starts.{EndsWith, StartsWith};
 ghost use Rattle.rsb_storage.specs.Storage.{run_of};
-ghost use Rattle.range_map_blaze.specs.Map.{runs_of_keys};
-ghost use Rattle.range_map_blaze.specs.Storage.{pieces_below, pieces_from, pieces_in, with_end_at, with_piece, without_start, IsLastBelow, NoneBelow, StartsAscendFrom};
+ghost use Rattle.range_map_blaze.specs.Made.{fed_piece, IsSettled};
+ghost use Rattle.range_map_blaze.specs.Map.{runs_of_keys, value_at, IsMapIn};
+ghost use Rattle.range_map_blaze.specs.Storage.{
+  pieces_below,
+  pieces_from,
+  pieces_in,
+  pieces_of,
+  with_end_at,
+  with_piece,
+  without_start,
+  IsLastBelow,
+  NoneBelow,
+  StartsAscendFrom,
+};
 
 use crate::key_ranges::KeyRanges;
 use crate::map_value::MapValue;
@@ -14,6 +40,8 @@ use rsb_integer::Integer;
 use rsb_storage::run::Run;
 use std::alloc::{AllocError, Allocator};
 use std::collections::BTreeMap;
+use std::collections::btree_map::{IntoIter, Iter};
+use std::hash::{Hash, Hasher};
 use std::marker::Model;
 
 /// A run of keys, and the value that they all have.
@@ -155,6 +183,30 @@ impl<T: Integer, V: MapValue, A: Allocator> Pieces<T, V, A> {
         }
     }
 
+    /// Returns the entries of the pieces, in ascending order.
+    pub fn entries(&self) -> Iter<'_, T, (T, V)>
+        ensures { pieces_of T.rank V.seen result ≡ self.now }
+    {
+        self.map.iter()
+    }
+
+    /// Returns the entries of the pieces, in ascending order, with an iterator that owns them.
+    pub fn into_entries(self) -> IntoIter<T, (T, V), A>
+        ensures { pieces_of T.rank V.seen result ≡ self }
+    {
+        self.map.into_iter()
+    }
+
+    /// Returns whether these pieces and others are the same.
+    pub fn same(&self, other: &Self) -> bool
+        requires { IsMapIn T.value_count self.now }
+        ensures same { IsTrue result ↔ (self.now ≡ other.now) }
+        ensures settled { IsSettled V.seen (value_at self.now) }
+        ensures settled_other { IsSettled V.seen (value_at other.now) }
+    {
+        self.map == other.map
+    }
+
     /// Removes the piece that starts at a value, if there is one.
     pub fn remove(&mut self, start: T)
         requires { T.rank start < T.value_count }
@@ -197,5 +249,17 @@ impl<T: Integer, V: MapValue, A: Allocator + Clone> Pieces<T, V, A> {
     {
         let map = self.map.split_off(&key)?;
         Ok(Pieces { map })
+    }
+}
+
+impl<T: Integer + Hash, V: MapValue + Hash, A: Allocator> Pieces<T, V, A> {
+    /// Feeds a hasher the number of pieces, and then each piece.
+    pub fn feed<H: Hasher>(&self, state: &mut H)
+        requires { IsMapIn T.value_count self.now }
+        ensures fed { state.new ≡ fold H.write state.old (slice
+            (fed_piece (λ rank. T.hash_input (T.value_at rank)) V.hash_input) self.now) }
+        ensures settled { IsSettled V.seen (value_at self.now) }
+    {
+        self.map.hash(state);
     }
 }

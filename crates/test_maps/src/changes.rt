@@ -16,7 +16,7 @@ pub(crate) enum Change {
 }
 
 /// Carries out a change, and returns the value that it returns, or 0 for none.
-pub(crate) fn carry_out<A: Allocator + Clone>(
+pub(crate) fn carry_out<A: Allocator + Copy>(
     change: Change,
     map: &mut RangeMapBlaze<u8, u8, A>,
 ) -> Result<u8, AllocError> {

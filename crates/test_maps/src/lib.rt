@@ -6,6 +6,14 @@ mod built;
 #[cfg(test)]
 mod changes;
 #[cfg(test)]
+mod compared;
+#[cfg(test)]
+mod costly;
+#[cfg(test)]
+mod keys;
+#[cfg(test)]
+mod many_calls;
+#[cfg(test)]
 mod many_ranges;
 #[cfg(test)]
 mod refusals;

@@ -1,8 +1,10 @@
 -- Pairs that are put one after the other.
-use Rattle.std.proofs.Common.{◌≡◌, ℕ, Bool, true, false, cond, List, [], ◌∷◌, ◌++◌, Option, Some, None, refl, sym, ap, ◌∙◌}
+use Rattle.std.proofs.Common.{◌≡◌, ℕ, Bool, true, false, cond, ◌+◌, List, [], ◌∷◌, ◌++◌, Option, Some, None, refl, sym, ap, ◌∙◌, inl, inr, arith}
 use Rattle.rsb_integer.specs.Runs.{Interval, covers}
+use Rattle.rsb_integer.proofs.lemmas.Members.{covers-cases}
 use Rattle.rsb_streams.specs.Items.{GaveRun}
-use Rattle.range_map_blaze.specs.Map.{last_value, or_else, value_at, IsMapOf, IsPut, PutsAll}
+use Rattle.range_map_blaze.specs.Map.{last_value, or_else, value_at, IsMapFrom, IsMapIn, IsMapOf, IsPut, PutsAll}
+use Rattle.range_map_blaze.proofs.lemmas.Values.{same-pieces, value-below}
 
 module _ {V : Type 0} where
   or-none : (found : Option V) → or_else found None ≡ found
@@ -51,6 +53,29 @@ module _ {V : Type 0} where
   pub puts-made : (added new : List (Interval × V)) → PutsAll [] added new → IsMapOf added new
   puts-made added new put =
       record { has = λ rank. put.puts rank ∙ or-none (last_value added rank) }
+
+  -- ---- a canonical list that is put into an empty map
+
+  -- No two pieces of a canonical list have a rank, so the last one that has it is the first.
+  last-only : (n low : ℕ) (pieces : List (Interval × V)) (rank : ℕ) → IsMapFrom n low pieces
+      → last_value pieces rank ≡ value_at pieces rank
+  last-only n low [] rank canonical = refl
+  last-only n low (piece ∷ pieces) rank canonical =
+      let rest = last-only n (piece.0.last + 1) pieces rank canonical.4 in
+      elim (covers-cases piece.0 rank) [
+        | inl inside ↦
+            let high = inside.1 in
+            let none = value-below n (piece.0.last + 1) pieces rank canonical.4 (omega (arith, high)) in
+            rw (inside.2, rest, none) refl
+        | inr outside ↦ rw outside.1 (or-none (last_value pieces rank) ∙ rest)
+      ]
+
+  -- A copy of all pieces is the same list.
+  pub copied-same : (n : ℕ) (pieces copy : List (Interval × V)) → IsMapIn n pieces → IsMapIn n copy
+      → PutsAll [] pieces copy → copy ≡ pieces
+  copied-same n pieces copy canonical copied put =
+      same-pieces n 0 0 copy pieces copied canonical (λ rank.
+      put.puts rank ∙ or-none (last_value pieces rank) ∙ last-only n 0 pieces rank canonical)
 
 -- A fact about all items that a value gave gives any fact that follows from it.
 pub gave-weaker : {J I X : Type 0} (becomes : J → I → Type 0) (steps : I → Option X → I → Type 0)

@@ -74,7 +74,7 @@ impl<T: Integer, V: MapValue, A: Allocator + Clone> RangeMapBlaze<T, V, A> {
     }
 
     // Gives a key a value. If allocation fails, the map is unchanged.
-    fn put_key(&mut self, pair: (T, V)) -> Result<(), AllocError>
+    pub(crate) fn put_key(&mut self, pair: (T, V)) -> Result<(), AllocError>
         ensures put { OnOk result (IsPut (value_at self.old)
             (covers (from_to (T.rank pair.0) (T.rank pair.0))) (V.seen pair.1)
             (value_at self.new)) }
@@ -84,6 +84,33 @@ impl<T: Integer, V: MapValue, A: Allocator + Clone> RangeMapBlaze<T, V, A> {
         put_run(&mut self.pieces, Run::only(known(key)), value)
     }
 
+    /// Moves all values of another map here, where they win. If allocation fails, or cloning a value
+    /// does, some of them have been copied here, and the other map is unchanged. Otherwise it is
+    /// empty. (`RangeMapBlaze::append`.)
+    pub fn append(&mut self, other: &mut Self) -> Result<(), AllocError>
+        ensures values { OnOk result (PutsAll self.old other.old self.new) }
+        ensures emptied { OnOk result (other.new ≡ []) }
+        ensures err { OnErr result (other.new ≡ other.old) }
+    {
+        self.copy_all(other)?;
+        other.clear();
+        Ok(())
+    }
+
+    // Copies all values of another map here, where they win. If allocation fails, some have been
+    // copied.
+    pub(crate) fn copy_all(&mut self, other: &Self) -> Result<(), AllocError>
+        ensures { OnOk result (PutsAll self.old other.now self.new) }
+    {
+        for (range, value) in other.range_values() {
+            let copy = value.clone()?;
+            self.put_pair((range, copy))?;
+        }
+        Ok(())
+    }
+}
+
+impl<T: Integer, V: MapValue, A: Allocator + Copy> RangeMapBlaze<T, V, A> {
     /// Returns the map of ranges and values. A later pair wins where ranges overlap, and an empty
     /// range changes nothing. If allocation fails, or cloning a value does, no map is made.
     /// (`FromIterator<(RangeInclusive<T>, V)>` of `RangeMapBlaze`.)
@@ -119,30 +146,5 @@ impl<T: Integer, V: MapValue, A: Allocator + Clone> RangeMapBlaze<T, V, A> {
         let mut map = RangeMapBlaze::new(alloc);
         map.extend_keys(pairs)?;
         Ok(map)
-    }
-
-    /// Moves all values of another map here, where they win. If allocation fails, or cloning a value
-    /// does, some of them have been copied here, and the other map is unchanged. Otherwise it is
-    /// empty. (`RangeMapBlaze::append`.)
-    pub fn append(&mut self, other: &mut Self) -> Result<(), AllocError>
-        ensures values { OnOk result (PutsAll self.old other.old self.new) }
-        ensures emptied { OnOk result (other.new ≡ []) }
-        ensures err { OnErr result (other.new ≡ other.old) }
-    {
-        self.copy_all(other)?;
-        other.clear();
-        Ok(())
-    }
-
-    // Copies all values of another map here, where they win. If allocation fails, some have been
-    // copied.
-    fn copy_all(&mut self, other: &Self) -> Result<(), AllocError>
-        ensures { OnOk result (PutsAll self.old other.now self.new) }
-    {
-        for (range, value) in other.range_values() {
-            let copy = value.clone()?;
-            self.put_pair((range, copy))?;
-        }
-        Ok(())
     }
 }

@@ -1,8 +1,20 @@
-//! Look-ups of keys.
+//! Look-ups of keys, and how many there are.
 
-ghost use Rattle.std.specs.Prelude.{◌≡◌, ◌↔◌, ◌<◌, [], IfSome, IsNone, MatchOption, None, Some};
+ghost use Rattle.std.specs.Prelude.{
+  ◌≡◌,
+  ◌↔◌,
+  ◌<◌,
+  [],
+  IfSome,
+  IsNone,
+  IsTrue,
+  MatchOption,
+  None,
+  Some,
+};
 ghost use Rattle.std.specs.Option.{option_map};
 ghost use Rattle.rsb_integer.specs.Rank.{interval_of};
+ghost use Rattle.rsb_integer.specs.Selection.{count, IsUniversal};
 ghost use Rattle.rsb_storage.specs.Set.{IsGreatest, IsLeast};
 ghost use Rattle.range_map_blaze.specs.Map.{keys, value_at, IsPieceAround};
 
@@ -11,10 +23,27 @@ use crate::map::RangeMapBlaze;
 use crate::map_value::MapValue;
 use rsb_integer::Integer;
 use rsb_storage::run::known;
+use rsb_streams::DrawDisjoint;
 use std::alloc::Allocator;
 use std::ops::RangeInclusive;
 
 impl<T: Integer, V: MapValue, A: Allocator> RangeMapBlaze<T, V, A> {
+    /// Returns the number of keys. Takes a step for each range, and does not allocate.
+    /// (`RangeMapBlaze::len`.)
+    pub fn len(&self) -> T::SafeLen
+        ensures { T.SafeLen.number result ≡ count T.value_count (keys self.now) }
+    {
+        self.ranges().members_len()
+    }
+
+    /// Returns whether every value of `T` is a key. Does not allocate.
+    /// (`RangeMapBlaze::is_universal`.)
+    pub fn is_universal(&self) -> bool
+        ensures { IsTrue result ↔ IsUniversal T.value_count (keys self.now) }
+    {
+        self.ranges().is_universal()
+    }
+
     /// Returns the value of a key, or `None` if it has none. (`RangeMapBlaze::get`.)
     pub fn get(&self, key: T) -> Option<&V>
         ensures { option_map (λ value. V.seen value.now) result ≡ value_at self.now (T.rank key) }

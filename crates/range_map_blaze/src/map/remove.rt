@@ -1,6 +1,20 @@
 //! Removal of values.
 
-ghost use Rattle.std.specs.Prelude.{◌≡◌, ◌+◌, ◌<◌, ◌≤◌, ◌++◌, [], length, Contains, IfOk, IfSome, IsNone, OnErr, OnOk};
+ghost use Rattle.std.specs.Prelude.{
+  ◌≡◌,
+  ◌+◌,
+  ◌<◌,
+  ◌≤◌,
+  ◌++◌,
+  [],
+  length,
+  Contains,
+  IfOk,
+  IfSome,
+  IsNone,
+  OnErr,
+  OnOk,
+};
 ghost use Rattle.std.specs.Option.{option_map};
 ghost use Rattle.rsb_integer.specs.Rank.{interval_of};
 ghost use Rattle.rsb_integer.specs.Runs.{covers};

@@ -1,6 +1,23 @@
 //! Maps split in two, and the removal of the first and the last key.
 
-ghost use Rattle.std.specs.Prelude.{◌≡◌, ◌↔◌, ◌+◌, ◌-◌, ◌<◌, ◌≤◌, ℕ, cond, [], IfOk, IfSome, IsNone, None, Some, OnErr, OnOk};
+ghost use Rattle.std.specs.Prelude.{
+  ◌≡◌,
+  ◌↔◌,
+  ◌+◌,
+  ◌-◌,
+  ◌<◌,
+  ◌≤◌,
+  ℕ,
+  cond,
+  [],
+  IfOk,
+  IfSome,
+  IsNone,
+  None,
+  Some,
+  OnErr,
+  OnOk,
+};
 ghost use Rattle.std.specs.Option.{option_map};
 ghost use Rattle.rsb_storage.specs.Set.{only, IsGreatest, IsLeast};
 ghost use Rattle.rsb_storage.specs.Split.{from_on};
@@ -15,7 +32,7 @@ use rsb_integer::Integer;
 use rsb_storage::run::{known, previous};
 use std::alloc::{AllocError, Allocator};
 
-impl<T: Integer, V: MapValue, A: Allocator + Clone> RangeMapBlaze<T, V, A> {
+impl<T: Integer, V: MapValue, A: Allocator + Copy> RangeMapBlaze<T, V, A> {
     /// Removes the values of all keys at or above a key, and returns a map of these. If allocation
     /// fails, or cloning a value does, the map is unchanged. (`RangeMapBlaze::split_off`.)
     pub fn split_off(&mut self, key: T) -> Result<Self, AllocError>
@@ -25,10 +42,13 @@ impl<T: Integer, V: MapValue, A: Allocator + Clone> RangeMapBlaze<T, V, A> {
             IsWithin (value_at self.old) (from_on (T.rank key)) (value_at high)) }
         ensures err { OnErr result (self.new ≡ self.old) }
     {
+        let alloc = self.alloc;
         let pieces = split_pieces(&mut self.pieces, known(key))?;
-        Ok(RangeMapBlaze { pieces })
+        Ok(RangeMapBlaze { pieces, alloc })
     }
+}
 
+impl<T: Integer, V: MapValue, A: Allocator + Clone> RangeMapBlaze<T, V, A> {
     /// Removes the least key and returns it with its value, or returns `None` if the map is empty.
     /// If allocation fails, or cloning the value does, the map is unchanged.
     /// (`RangeMapBlaze::pop_first`.)

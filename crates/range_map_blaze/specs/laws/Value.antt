@@ -1,5 +1,6 @@
 -- Proofs that the types of `src/map_value.rt` satisfy the laws of `MapValue`.
-use Rattle.std.specs.Prelude.{◌≡◌, ◌↔◌, ℕ, ℤ, Bool, true, false, ◌&&◌, List, nat_eq}
+use Rattle.std.specs.Prelude.{◌≡◌, ◌↔◌, ℕ, ℤ, Bool, true, false, ◌&&◌, List, [], ◌∷◌, Option, Some, nat_eq}
+use Rattle.std.specs.Fmt.{◌++?◌, comma_space}
 use Rattle.std.specs.Ordering.{int_eq}
 use Rattle.std.specs.Cmp.Lexicographic.{pointwise}
 use Rattle.std.proofs.Common.{ap, refl, Bor}
@@ -47,6 +48,19 @@ reference-exact seen eq exact left right = (
   (λ is i. record { ref_ptr = (0, 0); now = (exact left.now right.now).0 is i }),
   (λ same. (exact left.now right.now).1 (ap (λ value. value.now) same)),
 )
+
+-- Pairs whose parts have the same texts have the same text.
+pub pair-shown : {L R : Type 0} (left : L → Option (List ℕ)) (right : R → Option (List ℕ)) {a b : L}
+    {c d : R} → left a ≡ left b → right c ≡ right d
+    → (Some (40 ∷ []) ++? left a ++? Some comma_space ++? right c ++? Some (41 ∷ []))
+    ≡ (Some (40 ∷ []) ++? left b ++? Some comma_space ++? right d ++? Some (41 ∷ []))
+pair-shown left right one two i =
+    Some (40 ∷ []) ++? one i ++? Some comma_space ++? two i ++? Some (41 ∷ [])
+
+-- What is seen of a reference is seen as itself, if that holds for what it points to.
+pub reference-settled : {V : Type 0} (seen : V → V) → ((value : V) → seen (seen value) ≡ seen value)
+    → (value : Bor V) → unplaced seen (unplaced seen value) ≡ unplaced seen value
+reference-settled seen settled value i = record { ref_ptr = (0, 0); now = settled value.now i }
 
 -- Texts are seen as the same exactly if they have the same bytes.
 pub text-exact : (left right : Bor (List ℕ)) → (pointwise nat_eq left.now right.now ≡ true)
