@@ -1,7 +1,23 @@
 //! The command line. It is read here and not by `clap`, whose errors have several lines, and whose
 //! exact contracts cover only simple commands.
 
-ghost use Rattle.std.specs.Prelude.{◌≡◌, ℕ, [], ◌∷◌, ◌++◌, IfErr, IfOk, IsFalse, IsTrue, List, MatchResult, OnOk, codes, map, unwrap_or};
+ghost use Rattle.std.specs.Prelude.{
+  ◌≡◌,
+  ℕ,
+  [],
+  ◌∷◌,
+  ◌++◌,
+  IfErr,
+  IfOk,
+  IsFalse,
+  IsTrue,
+  List,
+  MatchResult,
+  OnOk,
+  codes,
+  map,
+  unwrap_or,
+};
 ghost use Rattle.std.specs.Option.{option_or};
 ghost use Rattle.ip_commands.specs.CommandLine.{
   AreArguments,

@@ -1,8 +1,18 @@
 //! Why the program exits with a status of 2 or more.
 
 ghost use Rattle.std.specs.Prelude.{◌≡◌, Some};
-ghost use Rattle.ip_commands.specs.declared.fault.Fault.TheVariants.{CommandLine, NoMemory, NotWritten};
-ghost use Rattle.ip_commands.specs.Fault.{fault_status, fault_text, is_silent, misuse_text, unwritten_status};
+ghost use Rattle.ip_commands.specs.declared.fault.Fault.TheVariants.{
+  CommandLine,
+  NoMemory,
+  NotWritten,
+};
+ghost use Rattle.ip_commands.specs.Fault.{
+  fault_status,
+  fault_text,
+  is_silent,
+  misuse_text,
+  unwritten_status,
+};
 
 use ip_sets::BadLine;
 use std::alloc::{AllocError, AllocFailed};

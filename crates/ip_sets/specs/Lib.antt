@@ -1,5 +1,4 @@
 pub mod Address
-pub mod AddressLaws
 pub mod AddressRange
 pub mod Blocks
 pub mod BlocksLeft
@@ -15,3 +14,4 @@ pub mod Pairs
 pub mod Plain
 pub mod Reason
 pub mod Selection
+pub mod laws

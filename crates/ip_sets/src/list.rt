@@ -1,9 +1,29 @@
 //! A list of addresses, read line by line.
 
-ghost use Rattle.std.specs.Prelude.{◌≡◌, ◌≢◌, ◌+◌, ◌≤◌, ◌++◌, [], Err, IfOk, IfSome, List, OnOk, Some, length};
+ghost use Rattle.std.specs.Prelude.{
+  ◌≡◌,
+  ◌≢◌,
+  ◌+◌,
+  ◌≤◌,
+  ◌++◌,
+  [],
+  Err,
+  IfOk,
+  IfSome,
+  List,
+  OnOk,
+  Some,
+  length,
+};
 ghost use Rattle.std.specs.Str.Lines.{lines};
 ghost use Rattle.range_set_blaze.specs.Runs.{members};
-ghost use Rattle.ip_sets.specs.List.{IsFirstBadLine, IsListOf, IsListPast, LeavesPastBadLine, reports_text};
+ghost use Rattle.ip_sets.specs.List.{
+  IsFirstBadLine,
+  IsListOf,
+  IsListPast,
+  LeavesPastBadLine,
+  reports_text,
+};
 
 pub(crate) mod bad_line;
 pub(crate) mod excerpt;

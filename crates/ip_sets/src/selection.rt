@@ -2,7 +2,14 @@
 
 ghost use Rattle.std.specs.Prelude.{◌≡◌, All, IfOk, List, map};
 ghost use Rattle.range_set_blaze.specs.Runs.{Interval};
-ghost use Rattle.ip_sets.specs.declared.operations.Operation.TheVariants.{AtLeast, Common, Complement, Except, Odd, Union};
+ghost use Rattle.ip_sets.specs.declared.operations.Operation.TheVariants.{
+  AtLeast,
+  Common,
+  Complement,
+  Except,
+  Odd,
+  Union,
+};
 ghost use Rattle.ip_sets.specs.Selection.{GiveEach, Selects};
 
 use crate::list::AddressList;

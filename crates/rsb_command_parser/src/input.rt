@@ -1,6 +1,25 @@
 //! The commands of an input that is read in parts.
 
-ghost use Rattle.std.specs.Prelude.{◌≡◌, ◌≢◌, ℕ, ℤ, ◌+◌, ◌<◌, ◌≤◌, ◌++◌, [], Err, IfErr, IfOk, IfSome, IsNone, List, OnOk, length, take};
+ghost use Rattle.std.specs.Prelude.{
+  ◌≡◌,
+  ◌≢◌,
+  ℕ,
+  ℤ,
+  ◌+◌,
+  ◌<◌,
+  ◌≤◌,
+  ◌++◌,
+  [],
+  Err,
+  IfErr,
+  IfOk,
+  IfSome,
+  IsNone,
+  List,
+  OnOk,
+  length,
+  take,
+};
 ghost use Rattle.std.specs.Io.KnownBytes.{IsAtEnd};
 ghost use Rattle.rsb_command_parser.specs.declared.command.Command.{Command};
 ghost use Rattle.rsb_command_parser.specs.Input.{HasBytes, HasTaken, IsClosed};

@@ -1,12 +1,50 @@
 //! Lines, words and commands in bytes. Lines are read in place, without a copy.
 
-ghost use Rattle.std.specs.Prelude.{◌≡◌, ◌≢◌, ◌↔◌, ℕ, ℤ, ◌^◌, ◌<◌, ◌≤◌, ◌==◌, [], ◌∷◌, Err, IfOk, IfSome, IsTrue, List, MatchOption, Some, SomeIff, codes, length, position};
+ghost use Rattle.std.specs.Prelude.{
+  ◌≡◌,
+  ◌≢◌,
+  ◌↔◌,
+  ℕ,
+  ℤ,
+  ◌^◌,
+  ◌<◌,
+  ◌≤◌,
+  ◌==◌,
+  [],
+  ◌∷◌,
+  Err,
+  IfOk,
+  IfSome,
+  IsTrue,
+  List,
+  MatchOption,
+  Some,
+  SomeIff,
+  codes,
+  length,
+  position,
+};
 ghost use Rattle.std.specs.Char.{digit_value};
 ghost use Rattle.std.specs.List.{AllZip};
 ghost use Rattle.std.specs.Str.Lines.{lines, strip_carriage_return};
 ghost use Rattle.std.specs.Str.Parse.{IsNumeral, digits_value};
 ghost use Rattle.rsb_command_parser.specs.declared.command.Command.{Command};
-ghost use Rattle.rsb_command_parser.specs.Spelling.{AreCommands, IsArgument, IsFirstBadLine, IsNoneOf, IsNumber, IsSlot, Reads, ReadsFirst, Spells, StartsWithCommand, is_blank, number, slot, words};
+ghost use Rattle.rsb_command_parser.specs.Spelling.{
+  AreCommands,
+  IsArgument,
+  IsFirstBadLine,
+  IsNoneOf,
+  IsNumber,
+  IsSlot,
+  Reads,
+  ReadsFirst,
+  Spells,
+  StartsWithCommand,
+  is_blank,
+  number,
+  slot,
+  words,
+};
 
 use crate::command::Command;
 use crate::fault::Fault;

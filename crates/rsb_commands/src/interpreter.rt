@@ -1,11 +1,41 @@
 //! Runs commands on ten sets and returns their replies.
 
-ghost use Rattle.std.specs.Prelude.{◌≡◌, ◌<◌, ◌⊎◌, [], IfErr, IfOk, IfSome, List, OnErr, OnOk, length, slice_get, slice_index_or, take, vec_len};
+ghost use Rattle.std.specs.Prelude.{
+  ◌≡◌,
+  ◌<◌,
+  ◌⊎◌,
+  [],
+  IfErr,
+  IfOk,
+  IfSome,
+  List,
+  OnErr,
+  OnOk,
+  length,
+  slice_get,
+  slice_index_or,
+  take,
+  vec_len,
+};
 ghost use Rattle.rsb_integer.specs.Rank.{intervals_of};
 ghost use Rattle.rsb_integer.specs.Runs.{AreRuns, members};
 ghost use Rattle.rsb_integer.specs.Selection.{Selection};
 ghost use Rattle.range_set_blaze.specs.Set.{IsSetOf};
-ghost use Rattle.rsb_commands.specs.Interpreter.{AreReplies, Content, IsPieceReply, IsReply, IsRunsReply, MayTakeMemory, content_of, contents_of, most_of, no_members, put, sets_after, sets_of};
+ghost use Rattle.rsb_commands.specs.Interpreter.{
+  AreReplies,
+  Content,
+  IsPieceReply,
+  IsReply,
+  IsRunsReply,
+  MayTakeMemory,
+  content_of,
+  contents_of,
+  most_of,
+  no_members,
+  put,
+  sets_after,
+  sets_of,
+};
 
 use range_set_blaze::{MultiwayRangeSetBlazeRef, RangeSetBlaze};
 use rsb_command_parser::{Command, SetNo};

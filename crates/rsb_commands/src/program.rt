@@ -5,7 +5,15 @@ ghost use Rattle.std.specs.Io.KnownBytes.{IsAtEnd, Keeps};
 ghost use Rattle.std.specs.Process.{exit_status};
 ghost use Rattle.rsb_command_parser.specs.Input.{HasBytes};
 ghost use Rattle.rsb_command_parser.specs.Spelling.{IsFirstBadLine};
-ghost use Rattle.rsb_commands.specs.Answer.{WritesReplies, AreNumberReplies, KeepsWithoutCommands, Replies, StopsForMemory, WroteFirstReplies, WrotePartOfReplies};
+ghost use Rattle.rsb_commands.specs.Answer.{
+  WritesReplies,
+  AreNumberReplies,
+  KeepsWithoutCommands,
+  Replies,
+  StopsForMemory,
+  WroteFirstReplies,
+  WrotePartOfReplies,
+};
 ghost use Rattle.rsb_commands.specs.Interpreter.{Content};
 ghost use Rattle.rsb_commands.specs.Ending.{ProgramEnds, TellsFault, channels, status_after};
 ghost use Rattle.rsb_commands.specs.Page.{sent_bytes, waiting_text};

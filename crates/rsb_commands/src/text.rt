@@ -3,9 +3,23 @@
 ghost use Rattle.std.specs.Prelude.{◌≡◌, ◌+◌, ◌≤◌, ◌++◌, IfSome, codes, decimal, flat_map, length};
 ghost use Rattle.std.specs.Fmt.{signed_decimal};
 ghost use Rattle.rsb_command_parser.specs.Fault.{fault_line};
-ghost use Rattle.rsb_commands.specs.Interpreter.{content_of, flag as flag_content, number as number_content, order as order_content, piece as piece_content, ranges as ranges_content, runs as runs_content};
+ghost use Rattle.rsb_commands.specs.Interpreter.{
+  content_of,
+  flag as flag_content,
+  number as number_content,
+  order as order_content,
+  piece as piece_content,
+  ranges as ranges_content,
+  runs as runs_content,
+};
 ghost use Rattle.rsb_commands.specs.Page.{Lays, Waits, waiting_text};
-ghost use Rattle.rsb_commands.specs.Text.{ends_text, line_text, next_range_text, range_text, ranges_text};
+ghost use Rattle.rsb_commands.specs.Text.{
+  ends_text,
+  line_text,
+  next_range_text,
+  range_text,
+  ranges_text,
+};
 ghost use Rattle.rsb_commands.specs.Transfer.{Writes};
 
 use crate::interpreter::Reply;

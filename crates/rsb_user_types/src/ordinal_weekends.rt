@@ -4,11 +4,11 @@ ghost use Rattle.std.specs.Prelude.{◌≡◌, ◌+◌, ◌-◌, ◌^◌, ◌<�
 ghost use Rattle.std.specs.Iterator.{at_most};
 ghost use Rattle.std.proofs.Common.{arith, rules};
 ghost use Rattle.range_set_blaze.specs.Rank.{interval_of};
-ghost use Rattle.range_set_blaze.specs.AscendingLaws.{ascending-keeps};
+ghost use Rattle.range_set_blaze.specs.laws.Ascending.{ascending-keeps};
 ghost use Rattle.range_set_blaze.specs.Calls.{gives_by};
-ghost use Rattle.range_set_blaze.specs.CallsLaws.{gives_by-answers};
+ghost use Rattle.range_set_blaze.specs.laws.Calls.{gives_by-answers};
 ghost use Rattle.range_set_blaze.specs.Stream.{◌⊆◌, just};
-ghost use Rattle.range_set_blaze.specs.StreamLaws.{canonical_stream-starts, drawn-itself};
+ghost use Rattle.range_set_blaze.specs.laws.Stream.{canonical_stream-starts, drawn-itself};
 ghost use Rattle.rsb_user_types.specs.Weekends.{weekends};
 
 use range_set_blaze::{Draw, DrawDisjoint, Integer, SortedDisjoint, SortedStarts};

@@ -58,7 +58,7 @@ module _ {T : Type 0} (text : ℕ → List ℕ) (rank : T → ℕ) where
 no-lines : (sign : List ℕ) {T : Type 0} (text : ℕ → List ℕ) (rank : T → ℕ) (width many : ℕ)
     (form : Form) → IsSignedSet sign text rank width many form [] []
 no-lines sign text rank width many Blocks = record {
-  canonical = (tt, All-nil (λ (run : Interval). run.last < many));
+  canonical = record { apart = tt; within = All-nil (λ (run : Interval). run.last < many) };
   written = record {
     blocks = [];
     aligned = All-nil (IsAligned rank width);
@@ -71,7 +71,7 @@ no-lines sign text rank width many Blocks = record {
   };
 }
 no-lines sign text rank width many Ranges = record {
-  canonical = (tt, All-nil (λ (run : Interval). run.last < many));
+  canonical = record { apart = tt; within = All-nil (λ (run : Interval). run.last < many) };
   written = refl;
 }
 

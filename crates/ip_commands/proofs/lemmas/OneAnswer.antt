@@ -74,16 +74,16 @@ module _ (n : ℕ) (runs others : List Interval)
   -- If two sets agree, the runs that are written are the same.
   kept-v4 : (families : Families) → IsCanonicalIn n (kept_v4 families runs)
       → IsCanonicalIn n (kept_v4 families others) → kept_v4 families runs ≡ kept_v4 families others
-  kept-v4 Both is also = canonical-same n runs others is.0 also.0 is.1 also.1 same
-  kept-v4 V4 is also = canonical-same n runs others is.0 also.0 is.1 also.1 same
+  kept-v4 Both is also = canonical-same n runs others is.apart also.apart is.within also.within same
+  kept-v4 V4 is also = canonical-same n runs others is.apart also.apart is.within also.within same
   kept-v4 V6 is also = refl
 
   -- So are those of the IPv6 addresses.
   kept-v6 : (families : Families) → IsCanonicalIn n (kept_v6 families runs)
       → IsCanonicalIn n (kept_v6 families others) → kept_v6 families runs ≡ kept_v6 families others
-  kept-v6 Both is also = canonical-same n runs others is.0 also.0 is.1 also.1 same
+  kept-v6 Both is also = canonical-same n runs others is.apart also.apart is.within also.within same
   kept-v6 V4 is also = refl
-  kept-v6 V6 is also = canonical-same n runs others is.0 also.0 is.1 also.1 same
+  kept-v6 V6 is also = canonical-same n runs others is.apart also.apart is.within also.within same
 
 -- ---- the answer to an operation
 
@@ -122,8 +122,8 @@ same-count : (family : List ℕ) (width : ℕ) (runs others : List Interval) (te
     → Agree (2 ^ width) (members runs) (members others) → IsCountText family width runs text
     → IsCountText family width others other → text ≡ other
 same-count family width runs others text other agree is also =
-    let same = canonical-same (2 ^ width) runs others is.canonical.0 also.canonical.0
-    is.canonical.1 also.canonical.1 agree in
+    let same = canonical-same (2 ^ width) runs others is.canonical.apart also.canonical.apart
+    is.canonical.within also.canonical.within agree in
     let fewest = subst (λ each. AreMaximalBlocks (members each) is.blocks) same is.fewest in
     let blocks = one-list (members others) is.blocks also.blocks fewest also.fewest in
     is.whole

@@ -92,12 +92,12 @@ module _ (width : ℕ) (text : ℕ → List ℕ) (Selects : List ℕ → Selecti
   ranges_lines (run ∷ runs) low rest canonical within none =
       let End : Interval → Type 0 = λ each. each.last < 2 ^ width in
       let ends = All-head End run runs within in
-      let later = ranges_lines runs (run.last + 2) rest canonical.2 (All-tail End run runs within)
+      let later = ranges_lines runs (run.last + 2) rest canonical.rest (All-tail End run runs within)
       none in
       let more = ranges_text text runs in
       subst (λ all. Selects all (members (run ∷ runs)))
       (sym (end_parts (text run.first) (text run.last) more rest 45))
-      (writes.span run.first run.last (omega (arith, ends, canonical.1)) ends canonical.1
+      (writes.span run.first run.last (omega (arith, ends, canonical.in_order)) ends canonical.in_order
       (more ++ rest) (members runs) (members (run ∷ runs)) (members-cons run runs) later)
 
   module _ {T : Type 0} (rank : T → ℕ) where
@@ -169,14 +169,14 @@ module _ (width : ℕ) (text : ℕ → List ℕ) (Selects : List ℕ → Selecti
         λ i number. h.fewest.exact number i in
         let within : (number : ℕ) → members (block_runs rank width h.blocks) number ≡ true
         → number < 2 ^ width =
-        λ number member. member_fits runs number is.canonical.1
+        λ number member. member_fits runs number is.canonical.within
         (sym (h.fewest.exact number) ∙ member) in
         subst (λ selected. Selects (lines ++ rest) selected) exact
         (subst (λ all. Selects (all ++ rest) (members (block_runs rank width h.blocks)))
         (sym h.whole) (blocks_lines h.blocks rest h.aligned within none))
     set_lines Ranges runs lines rest is none =
         subst (λ all. Selects (all ++ rest) (members runs)) (sym is.written)
-        (ranges_lines runs 0 rest is.canonical.0 is.canonical.1 none)
+        (ranges_lines runs 0 rest is.canonical.apart is.canonical.within none)
 
 -- ---- the lines of a list
 

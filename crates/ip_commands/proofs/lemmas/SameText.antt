@@ -170,7 +170,7 @@ module _ {T : Type 0} (text : ℕ → List ℕ) (rank : T → ℕ) (width : ℕ)
       maximal (λ number. h.fewest.exact number ∙ same number ∙ sym (k.fewest.exact number)))
       ∙ sym k.whole
   same-set Ranges runs others lines more many is also same =
-      let one = canonical-unique 0 0 runs others is.canonical.0 also.canonical.0 same in
+      let one = canonical-unique 0 0 runs others is.canonical.apart also.canonical.apart same in
       is.written ∙ ap (ranges_text text) one ∙ sym also.written
 
 -- ---- a list has one text

@@ -1,6 +1,21 @@
 //! How many addresses and blocks the lists of files have.
 
-ghost use Rattle.std.specs.Prelude.{◌≡◌, ℕ, ◌++◌, ◌-◌, ◌^◌, IfErr, IfSome, List, OnOk, codes, decimal, length, map, min};
+ghost use Rattle.std.specs.Prelude.{
+  ◌≡◌,
+  ℕ,
+  ◌++◌,
+  ◌-◌,
+  ◌^◌,
+  IfErr,
+  IfSome,
+  List,
+  OnOk,
+  codes,
+  decimal,
+  length,
+  map,
+  min,
+};
 ghost use Rattle.std.specs.Io.KnownBytes.{Appends};
 ghost use Rattle.range_set_blaze.specs.Runs.{Interval, IsCanonicalIn, members};
 ghost use Rattle.ip_sets.specs.Blocks.{AreMaximalBlocks};

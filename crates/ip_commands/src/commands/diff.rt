@@ -1,6 +1,18 @@
 //! What differs between the lists of two files.
 
-ghost use Rattle.std.specs.Prelude.{◌≡◌, ◌↔◌, ℕ, ◌≤◌, IfErr, IfOk, IsTrue, List, OnOk, codes, length};
+ghost use Rattle.std.specs.Prelude.{
+  ◌≡◌,
+  ◌↔◌,
+  ℕ,
+  ◌≤◌,
+  IfErr,
+  IfOk,
+  IsTrue,
+  List,
+  OnOk,
+  codes,
+  length,
+};
 ghost use Rattle.std.specs.Io.KnownBytes.{Appends};
 ghost use Rattle.range_set_blaze.specs.Runs.{members};
 ghost use Rattle.range_set_blaze.specs.Selection.{Agree, difference};

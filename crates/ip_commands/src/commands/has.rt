@@ -2,7 +2,13 @@
 
 ghost use Rattle.std.specs.Prelude.{◌≡◌, ℕ, IfErr, IfOk, List, OnOk, map};
 ghost use Rattle.std.specs.Io.KnownBytes.{Appends};
-ghost use Rattle.ip_commands.specs.Answer.{IsFound, found_outcome, has_address, names_text, names_with};
+ghost use Rattle.ip_commands.specs.Answer.{
+  IsFound,
+  found_outcome,
+  has_address,
+  names_text,
+  names_with,
+};
 ghost use Rattle.ip_commands.specs.Files.{IsFirstFault, KeepsUnlessWriting, selected};
 
 use crate::commands::Outcome;

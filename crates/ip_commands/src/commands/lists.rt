@@ -3,7 +3,14 @@
 ghost use Rattle.std.specs.Prelude.{◌≡◌, ◌≢◌, ℕ, IfErr, IfOk, List, map};
 ghost use Rattle.std.specs.IoError.{error_kind};
 ghost use Rattle.std.specs.declared.io.ErrorKind.{ErrorKind};
-ghost use Rattle.ip_commands.specs.Files.{AreFilesOf, IsFaultOf, IsFileOf, IsFirstFault, IsNotRead, selected};
+ghost use Rattle.ip_commands.specs.Files.{
+  AreFilesOf,
+  IsFaultOf,
+  IsFileOf,
+  IsFirstFault,
+  IsNotRead,
+  selected,
+};
 ghost use Rattle.ip_commands.specs.declared.fault.Fault.{Fault};
 
 use crate::fault::Fault;

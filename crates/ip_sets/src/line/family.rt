@@ -3,7 +3,7 @@
 ghost use Rattle.std.specs.Prelude.{◌≡◌, ℕ, ◌≤◌, All, IfSome, IsFalse, List};
 ghost use Rattle.std.proofs.Common.{lit≤};
 ghost use Rattle.ip_sets.specs.Address.{IsV4, IsV6};
-ghost use Rattle.ip_sets.specs.AddressLaws.{one_v4, one_v6, unmarked_v4, unmarked_v6};
+ghost use Rattle.ip_sets.specs.laws.Address.{one_v4, one_v6, unmarked_v4, unmarked_v6};
 ghost use Rattle.ip_sets.specs.Line.{is_mark};
 ghost use Rattle.ip_sets.specs.LineParts.{ReadsNumber};
 ghost use Rattle.ip_sets.specs.Plain.{BeginsWith};

@@ -1,6 +1,20 @@
 //! Decimal numbers at the start of bytes, read without a branch on how many digits they have.
 
-ghost use Rattle.std.specs.Prelude.{◌≡◌, ℕ, ◌+◌, ◌<◌, ◌≤◌, ◌++◌, ◌∷◌, IfSome, List, cond, decimal, drop, length};
+ghost use Rattle.std.specs.Prelude.{
+  ◌≡◌,
+  ℕ,
+  ◌+◌,
+  ◌<◌,
+  ◌≤◌,
+  ◌++◌,
+  ◌∷◌,
+  IfSome,
+  List,
+  cond,
+  decimal,
+  drop,
+  length,
+};
 
 /// Reads `byte` at the start of the bytes. Returns the bytes after it, or `None` if they start with
 /// another byte or are empty.

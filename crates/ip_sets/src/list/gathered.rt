@@ -1,8 +1,33 @@
 //! The ranges that the lines of a list mean, gathered before the sets are built.
 
-ghost use Rattle.std.specs.Prelude.{◌≡◌, ◌≢◌, ℕ, ◌+◌, ◌≤◌, ◌++◌, [], ◌∷◌, Err, IfOk, List, OnOk, Some, drop, length};
+ghost use Rattle.std.specs.Prelude.{
+  ◌≡◌,
+  ◌≢◌,
+  ℕ,
+  ◌+◌,
+  ◌≤◌,
+  ◌++◌,
+  [],
+  ◌∷◌,
+  Err,
+  IfOk,
+  List,
+  OnOk,
+  Some,
+  drop,
+  length,
+};
 ghost use Rattle.range_set_blaze.specs.Set.{IsSetOf};
-ghost use Rattle.ip_sets.specs.Gathering.{AreGathered, AreGatheredBefore, AreGatheredPast, AreGatheredTo, StopsPast, gathered_v4, gathered_v6, range_count};
+ghost use Rattle.ip_sets.specs.Gathering.{
+  AreGathered,
+  AreGatheredBefore,
+  AreGatheredPast,
+  AreGatheredTo,
+  StopsPast,
+  gathered_v4,
+  gathered_v6,
+  range_count,
+};
 ghost use Rattle.ip_sets.specs.Line.{IsLine, MeansV4, MeansV6, content};
 ghost use Rattle.ip_sets.specs.LineParts.{Reads};
 ghost use Rattle.ip_sets.specs.List.{AddsAddressesOf, IsReportOf};

@@ -4,8 +4,8 @@ ghost use Rattle.std.specs.Iterator.{YieldsFirst, item_count};
 ghost use Rattle.range_set_blaze.specs.Rank.{intervals_of};
 ghost use Rattle.range_set_blaze.specs.Runs.{IsCanonicalIn};
 ghost use Rattle.rsb_streams.specs.Listed.{listed_may_give};
-ghost use Rattle.rsb_streams.specs.ListedLaws.{listed-answers, listed-keeps};
-ghost use Rattle.rsb_streams.specs.StreamLaws.{canonical_stream-starts, drawn-itself};
+ghost use Rattle.rsb_streams.specs.laws.Listed.{listed-answers, listed-keeps};
+ghost use Rattle.rsb_streams.specs.laws.Stream.{canonical_stream-starts, drawn-itself};
 
 use crate::blocks::Address;
 use range_set_blaze::{Draw, DrawDisjoint, SortedDisjoint, SortedStarts};

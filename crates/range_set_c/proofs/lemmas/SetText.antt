@@ -12,7 +12,7 @@ use Rattle.std.specs.Str.{IsAscii, IsUtf8}
 use Rattle.std.specs.declared.ops.RangeInclusive.{RangeInclusive}
 use Rattle.rsb_integer.specs.Rank.{intervals_of}
 use Rattle.rsb_integer.specs.Runs.{Interval, members, IsCanonicalIn}
-use Rattle.range_set_blaze.specs.NumberLaws.{unsigned-numbers}
+use Rattle.range_set_blaze.specs.laws.Number.{unsigned-numbers}
 use Rattle.range_set_blaze.specs.Set.{IsSetOf}
 use Rattle.range_set_blaze.specs.Text.{BlanksThen, DigitsThen, EndThen, NumberThen, NumeralThen, OthersFollow, SignedThen, Spells, StartThen, Then, is_blank}
 use Rattle.range_set_blaze.specs.Written.{run_text, runs_text}

@@ -6,7 +6,13 @@
 
 ghost use Rattle.std.specs.Prelude.{◌≡◌, ◌⊎◌, ◌^◌};
 ghost use Rattle.rsb_integer.specs.Runs.{members};
-ghost use Rattle.rsb_integer.specs.Selection.{difference, intersection, symmetric_difference, union, complement_in};
+ghost use Rattle.rsb_integer.specs.Selection.{
+  difference,
+  intersection,
+  symmetric_difference,
+  union,
+  complement_in,
+};
 ghost use Rattle.range_set_blaze.specs.Set.{IsSetOf};
 ghost use Rattle.range_set_c.specs.Answer.{IsChanged, IsRefused};
 

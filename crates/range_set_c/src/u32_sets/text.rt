@@ -1,7 +1,19 @@
 // Written by tools/c/narrow from src/u64_sets/text.rt.
 //! The text of a set, such as `1..=5, 10..=20`.
 
-ghost use Rattle.std.specs.Prelude.{◌≡◌, ◌⊎◌, ◌++◌, ◌<◌, [], drop, length, IfOk, IsFalse, IsTrue, MatchOption};
+ghost use Rattle.std.specs.Prelude.{
+  ◌≡◌,
+  ◌⊎◌,
+  ◌++◌,
+  ◌<◌,
+  [],
+  drop,
+  length,
+  IfOk,
+  IsFalse,
+  IsTrue,
+  MatchOption,
+};
 ghost use Rattle.std.specs.String.{string_bytes};
 ghost use Rattle.range_set_c.specs.Answer.{HasNoRoom, IsBadText, IsChanged, IsRefused};
 ghost use Rattle.range_set_c.specs.SetText.{text_of, IsRead, IsUnexpectedAt, IsUnread};

@@ -6,7 +6,13 @@
 
 ghost use Rattle.std.specs.Prelude.{◌≡◌, ◌^◌};
 ghost use Rattle.rsb_integer.specs.Runs.{members};
-ghost use Rattle.rsb_integer.specs.Selection.{intersection, symmetric_difference, AreDisjoint, IsEmpty, IsSubset};
+ghost use Rattle.rsb_integer.specs.Selection.{
+  intersection,
+  symmetric_difference,
+  AreDisjoint,
+  IsEmpty,
+  IsSubset,
+};
 ghost use Rattle.range_set_blaze.specs.Set.{Adds, IsSetOf, Removes};
 ghost use Rattle.range_set_c.specs.Answer.{IsChanged, IsRefused, IsStatus, IsUnchanged, Succeeds};
 

@@ -6,12 +6,31 @@
 //! goes on with `run_before` at `run.first`. A walk by arrays calls `runs_in` again past the last
 //! run that it got.
 
-ghost use Rattle.std.specs.Prelude.{◌≡◌, ℕ, ◌^◌, ◌<◌, ◌≤◌, drop, length, map, IfSome, IsFalse, IsNone, IsTrue};
+ghost use Rattle.std.specs.Prelude.{
+  ◌≡◌,
+  ℕ,
+  ◌^◌,
+  ◌<◌,
+  ◌≤◌,
+  drop,
+  length,
+  map,
+  IfSome,
+  IsFalse,
+  IsNone,
+  IsTrue,
+};
 ghost use Rattle.rsb_integer.specs.Runs.{covers, from_to, members, IsMaximalRun};
 ghost use Rattle.rsb_integer.specs.Selection.{complement, intersection};
 ghost use Rattle.range_set_blaze.specs.Set.{IsRunAround};
 ghost use Rattle.range_set_c.specs.U64Runs.{interval_of_run};
-ghost use Rattle.range_set_c.specs.Walk.{BeginsWithRuns, IsFirstAfter, IsLastBefore, NoneAfter, NoneBefore};
+ghost use Rattle.range_set_c.specs.Walk.{
+  BeginsWithRuns,
+  IsFirstAfter,
+  IsLastBefore,
+  NoneAfter,
+  NoneBefore,
+};
 
 use super::handle::Handle;
 use super::run::Run;

@@ -1,6 +1,19 @@
 //! A caller over any inputs whose bytes are known, and inputs that it can be called with.
 
-ghost use Rattle.std.specs.Prelude.{◌≡◌, ℕ, [], ◌∷◌, if◌then◌else◌, IfOk, List, None, Some, bytes_eq, codes, map};
+ghost use Rattle.std.specs.Prelude.{
+  ◌≡◌,
+  ℕ,
+  [],
+  ◌∷◌,
+  if◌then◌else◌,
+  IfOk,
+  List,
+  None,
+  Some,
+  bytes_eq,
+  codes,
+  map,
+};
 ghost use Rattle.ip_commands.specs.Answer.{IsCombined};
 ghost use Rattle.ip_commands.specs.ReadBack.{AreKnown, ReadsAsCombined};
 

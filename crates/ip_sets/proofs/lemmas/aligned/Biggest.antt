@@ -62,7 +62,7 @@ module _ (run : Interval) (runs : List Interval) (ordered : run.first ≤ run.la
   members-from_run : (rank : ℕ) → members (run ∷ runs) rank ≡ true → run.first ≤ rank
   members-from_run rank at = elim (cases_lt rank run.first) [
     | inl before ↦ absurd (not_both (members (run ∷ runs) rank) at
-        (members-below run.first (run ∷ runs) rank (omega arith, ordered, canonical) before))
+        (members-below run.first (run ∷ runs) rank (record { starts = omega arith; in_order = ordered; rest = canonical }) before))
     | inr most ↦ most
   ]
 

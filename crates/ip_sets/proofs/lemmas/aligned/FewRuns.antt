@@ -14,9 +14,9 @@ canonical-ascends : (low lower : ℕ) (runs : List Interval) → lower ≤ low �
     → AscendsFrom lower runs
 canonical-ascends low lower [] less canonical = tt
 canonical-ascends low lower (run ∷ runs) less canonical = (
-  omega (arith, less, canonical.0),
-  canonical.1,
-  canonical-ascends (run.last + 2) (run.last + 1) runs (omega arith) canonical.2,
+  omega (arith, less, canonical.starts),
+  canonical.in_order,
+  canonical-ascends (run.last + 2) (run.last + 1) runs (omega arith) canonical.rest,
 )
 
 module _ (n : ℕ) (set others : List Interval)
@@ -42,10 +42,10 @@ module _ (n : ℕ) (set others : List Interval)
   -- There are at most as many runs as others.
   pub few-runs : IsCanonicalIn n set → length set ≤ length others
   few-runs canonical =
-      let maximal = canonical-maximal n 0 set canonical.0 canonical.1 in
+      let maximal = canonical-maximal n 0 set canonical.apart canonical.within in
       let starts : All (HasStart others) set = λ place default within.
       run-start (get_or set place default) (maximal place default within) in
-      let most = length-starts 0 set others (canonical-ascends 0 0 set (omega arith) canonical.0)
+      let most = length-starts 0 set others (canonical-ascends 0 0 set (omega arith) canonical.apart)
       starts in
       let count = starts-length 0 others in
       omega (arith, most, count)

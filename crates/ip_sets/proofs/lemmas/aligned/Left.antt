@@ -7,7 +7,7 @@ use Rattle.std.specs.Iterator.{Count, IsFinite, MakesProgress, Yields, size}
 use Rattle.std.specs.Range.{range_inclusive_start, range_inclusive_end}
 use Rattle.std.specs.declared.ops.RangeInclusive.{RangeInclusive}
 use Rattle.rsb_integer.proofs.lemmas.Canonical.{canonical-lower}
-use Rattle.rsb_streams.specs.StreamLaws.{settled_le, settled_lt}
+use Rattle.rsb_streams.specs.laws.Stream.{settled_le, settled_lt}
 use Rattle.range_set_blaze.specs.Rank.{interval_of}
 use Rattle.range_set_blaze.specs.Runs.{length_of, members, Interval, IsCanonicalFrom, IsCanonicalIn}
 use Rattle.range_set_blaze.specs.Stream.{◌⊆◌, HasOutcome, Outcomes}
@@ -38,14 +38,14 @@ module _ {T I : Type 0} (rank : T → ℕ) (n : ℕ) (can_draw : I → Type 0) (
     first-ordered : (run : Interval) → ((given : List Interval) → may_give t.ranges given
         → runs_left rank may_give s (run ∷ given)) → run.first ≤ run.last
     first-ordered run comes = settled_le run.first run.last (λ fails. some (λ given may.
-        fails (ready.canonical (run ∷ given) (comes given may)).0.1))
+        fails (ready.canonical (run ∷ given) (comes given may)).apart.in_order))
 
     -- It is in the type, too.
     first-in_type : (run : Interval) → ((given : List Interval) → may_give t.ranges given
         → runs_left rank may_give s (run ∷ given)) → run.last < n
     first-in_type run comes = settled_lt run.last n (λ fails. some (λ given may.
         fails (All-head (λ (each : Interval). each.last < n) run given
-        (ready.canonical (run ∷ given) (comes given may)).1)))
+        (ready.canonical (run ∷ given) (comes given may)).within)))
 
     -- The span that is held comes first.
     pub takes-held : (span : Span T) → s.rest ≡ Some span → t.ranges ≡ s.ranges → Takes s span t
@@ -152,7 +152,7 @@ module _ {T I : Type 0} (rank : T → ℕ) (n : ℕ) (can_draw : I → Type 0) (
     own-maximal : (given : List Interval) → may_give t.ranges given
         → IsMaximalBlock (members (run ∷ given)) own
     own-maximal given may =
-        biggest-maximal run given takes.in_order (span-canonical given may).0.2
+        biggest-maximal run given takes.in_order (span-canonical given may).apart.rest
         (width - block.length) split.biggest own own-starts own-ends
 
     -- Past the block, the rest of the span is left, and what the stream may give.
@@ -161,12 +161,12 @@ module _ {T I : Type 0} (rank : T → ℕ) (n : ℕ) (can_draw : I → Type 0) (
         → IsPast (members (run ∷ given)) own (members (span_list rank more ++ given))
     own-past None is given may =
         let ends = own-ends in
-        past-whole run given takes.in_order (span-canonical given may).0.2
+        past-whole run given takes.in_order (span-canonical given may).apart.rest
         (width - block.length) split.biggest own own-starts own-ends
         (omega (arith, is, ends))
     own-past (Some more) is given may =
         let ends = own-ends in
-        past-part run given takes.in_order (span-canonical given may).0.2
+        past-part run given takes.in_order (span-canonical given may).apart.rest
         (width - block.length) split.biggest own own-starts own-ends
         (span_run rank more) (omega (arith, is.0, ends)) is.1
 
@@ -182,21 +182,22 @@ module _ {T I : Type 0} (rank : T → ℕ) (n : ℕ) (can_draw : I → Type 0) (
     rest-canonical : (more : Option (Span T)) → IsRest rank run (2 ^ (width - block.length)) more
         → (given : List Interval) → IsCanonicalIn n (run ∷ given)
         → IsCanonicalIn n (span_list rank more ++ given)
-    rest-canonical None is given canonical = (
-      canonical-lower (run.last + 2) 0 given (omega arith) canonical.0.2,
-      All-tail (λ (each : Interval). each.last < n) run given canonical.1,
-    )
+    rest-canonical None is given canonical = record {
+      apart = canonical-lower (run.last + 2) 0 given (omega arith) canonical.apart.rest;
+      within = All-tail (λ (each : Interval). each.last < n) run given canonical.within;
+    }
     rest-canonical (Some more) is given canonical =
-        let in_type = takes.in_type in (
-          (
-            omega arith,
-            is.2,
-            subst (λ last. IsCanonicalFrom (last + 2) given) (sym is.1) canonical.0.2,
-          ),
-          All-cons (λ (each : Interval). each.last < n) (span_run rank more) given
+        let in_type = takes.in_type in
+        record {
+          apart = record {
+            starts = omega arith;
+            in_order = is.2;
+            rest = subst (λ last. IsCanonicalFrom (last + 2) given) (sym is.1) canonical.apart.rest;
+          };
+          within = All-cons (λ (each : Interval). each.last < n) (span_run rank more) given
               (omega (arith, in_type, is.1))
-              (All-tail (λ (each : Interval). each.last < n) run given canonical.1),
-        )
+              (All-tail (λ (each : Interval). each.last < n) run given canonical.within);
+        }
 
     -- Fewer ranks are left past the block.
     rest-shorter : (more : Option (Span T)) → IsRest rank run (2 ^ (width - block.length)) more

@@ -130,7 +130,7 @@ module _ {T : Type 0} (rank : T → ℕ) (n : ℕ) where
         → All IsProper rest → low ≤ rank last.0 → StartsFrom (rank last.0) rest
         → DedupsFrom R s last rest left → AreJoined low (last ∷ rest) left
     joined-from s low last [] left proper all from starts is = rw is (record {
-      canonical = (from, proper.in_order, tt);
+      canonical = record { starts = from; in_order = proper.in_order; rest = tt };
       within = All-cons (λ (run : Interval). run.last < n) (span_of rank last) [] proper.in_type
           (All-nil (λ (run : Interval). run.last < n));
       same = λ place. refl;
@@ -173,7 +173,7 @@ module _ {T : Type 0} (rank : T → ℕ) (n : ℕ) where
         (subst (λ each. DedupsFrom R t each rest told.0) fact.0 told.1) in
         let is : left ≡ last ∷ told.0 = told.2 ∙ ap (λ each. each ∷ told.0) fact.1.0 in
         rw is (record {
-          canonical = (from, proper.in_order, more.canonical);
+          canonical = record { starts = from; in_order = proper.in_order; rest = more.canonical };
           within = All-cons (λ (run : Interval). run.last < n) (span_of rank last)
               (spans_of rank told.0) proper.in_type more.within;
           same = λ place.

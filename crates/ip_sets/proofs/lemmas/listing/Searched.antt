@@ -22,11 +22,11 @@ module _ {T : Type 0} (rank : T → ℕ) (place : ℕ) where
       → low ≤ rank (get_or pairs at default).1
   ends-from low [] at default canonical within = absurd (omega (arith, within))
   ends-from low (pair ∷ pairs) zero default canonical within =
-      omega (arith, canonical.0, canonical.1)
+      omega (arith, canonical.starts, canonical.in_order)
   ends-from low (pair ∷ pairs) (suc at) default canonical within =
-      let later = ends-from (rank pair.1 + 2) pairs at default canonical.2
+      let later = ends-from (rank pair.1 + 2) pairs at default canonical.rest
       (omega (arith, within)) in
-      omega (arith, canonical.0, canonical.1, later)
+      omega (arith, canonical.starts, canonical.in_order, later)
 
   -- Runs that end before the place come before all others.
   pub ends-partitioned : (low : ℕ) (pairs : List (T × T)) → IsCanonicalFrom low (spans_of rank pairs)
@@ -35,13 +35,13 @@ module _ {T : Type 0} (rank : T → ℕ) (place : ℕ) where
       absurd (omega (arith, within))
   ends-partitioned low (pair ∷ pairs) canonical zero zero default order within ends = ends
   ends-partitioned low (pair ∷ pairs) canonical zero (suc j) default order within ends =
-      let later = ends-from (rank pair.1 + 2) pairs j default canonical.2
+      let later = ends-from (rank pair.1 + 2) pairs j default canonical.rest
       (omega (arith, within)) in
       grind (arith, nat_tests, later, ends)
   ends-partitioned low (pair ∷ pairs) canonical (suc i) zero default order within ends =
       absurd (omega (arith, order))
   ends-partitioned low (pair ∷ pairs) canonical (suc i) (suc j) default order within ends =
-      ends-partitioned (rank pair.1 + 2) pairs canonical.2 i j default (omega (arith, order))
+      ends-partitioned (rank pair.1 + 2) pairs canonical.rest i j default (omega (arith, order))
       (omega (arith, within)) ends
 
   -- Whether the runs that end before the place are those before position `at`.
@@ -74,13 +74,13 @@ module _ {T : Type 0} (rank : T → ℕ) (place : ℕ) where
       let reached : place ≤ rank pair.1 = grind (arith, nat_tests, ends) in
       members-cons (span_of rank pair) (spans_of rank pairs) place
       ∙ ap (λ has. covers (span_of rank pair) place || has)
-      (members-below (rank pair.1 + 2) (spans_of rank pairs) place canonical.2
+      (members-below (rank pair.1 + 2) (spans_of rank pairs) place canonical.rest
       (omega (arith, reached)))
       ∙ covers-unless_past (span_of rank pair) place reached
   next-decides low (pair ∷ pairs) (suc at) default canonical point within =
       members-tail (span_of rank pair) (spans_of rank pairs) place
       (inr (ends_before-first pair pairs at point))
-      ∙ next-decides (rank pair.1 + 2) pairs at default canonical.2
+      ∙ next-decides (rank pair.1 + 2) pairs at default canonical.rest
       (ends_before-tail pair pairs at point) (omega (arith, within))
 
   -- If no run comes next, the place is no member.
@@ -92,5 +92,5 @@ module _ {T : Type 0} (rank : T → ℕ) (place : ℕ) where
   none-decides low (pair ∷ pairs) (suc at) canonical point past =
       members-tail (span_of rank pair) (spans_of rank pairs) place
       (inr (ends_before-first pair pairs at point))
-      ∙ none-decides (rank pair.1 + 2) pairs at canonical.2
+      ∙ none-decides (rank pair.1 + 2) pairs at canonical.rest
       (ends_before-tail pair pairs at point) (omega (arith, past))

@@ -8,7 +8,7 @@ use Rattle.std.specs.declared.ops.RangeInclusive.{RangeInclusive}
 use Rattle.ip_sets.specs.declared.line.Line.{Line}
 use Rattle.ip_sets.specs.declared.line.Line.TheVariants.{Nothing, V4, V6}
 use Rattle.ip_sets.specs.Address.{IsV4, IsV6}
-use Rattle.ip_sets.specs.AddressLaws.{one_v4, one_v6}
+use Rattle.ip_sets.specs.laws.Address.{one_v4, one_v6}
 use Rattle.ip_sets.specs.AddressRange.{Spans, WritesOne, WritesBlock, WritesSpan, WritesOneOrBlock, WritesParts, WritesRange, block_size, block_start}
 use Rattle.ip_sets.specs.Line.{IsLine, content}
 use Rattle.ip_sets.specs.LineParts.{parts, trimmed}

@@ -3,7 +3,7 @@ use Rattle.std.proofs.lemmas.List.{get_or_read}
 use Rattle.rsb_integer.specs.Runs.{members}
 use Rattle.rsb_integer.specs.Selection.{difference, intersection, symmetric_difference, union, complement_in}
 use Rattle.range_set_blaze.specs.Order.{HasOrder}
-use Rattle.range_set_blaze.specs.OrderLaws.{order-holds}
+use Rattle.range_set_blaze.specs.laws.Order.{order-holds}
 use Rattle.range_set_blaze.specs.Set.{only}
 use Rattle.rsb_commands.specs.Interpreter.{most_of, sets_of}
 use Rattle.rsb_commands.proofs.lemmas.replying.KeptSets.{sets_after-added, reply-added, sets_of-put}

@@ -1,6 +1,6 @@
 use Rattle.std.specs.Int.{w32}
 use Rattle.rsb_integer.specs.Rank.{signed_value}
-use Rattle.rsb_integer.specs.RankLaws.{signed-ranks}
+use Rattle.rsb_integer.specs.laws.Rank.{signed-ranks}
 use Rattle.rsb_command_parser.specs.Spelling.{lines_with_words}
 use Rattle.rsb_commands.specs.Interpreter.{no_members}
 use Rattle.rsb_commands.proofs.lemmas.replying.SomeReply.{replies_exist}

@@ -30,7 +30,7 @@ module _ {T : Type 0} (rank : T → ℕ) (value_count : ℕ)
       let canonical = runs-canonical value_count set (intervals_of rank left) are in
       let same = runs-same value_count set set (intervals_of rank left) (intervals_of rank right)
       are also (λ at below. refl) in
-      same_ranges rank value_count one_place 0 left right canonical.0 canonical.1 same
+      same_ranges rank value_count one_place 0 left right canonical.apart canonical.within same
 
   -- A command has at most one reply.
   one_reply : (sets : Sets) (command : Command T) (left right : Content T)

@@ -10,9 +10,9 @@ use Rattle.rsb_integer.specs.Selection.{Selection, complement, count, difference
 use Rattle.rsb_integer.proofs.lemmas.List.{true_or_false}
 use Rattle.rsb_integer.proofs.lemmas.Maximal.{maximal-around}
 use Rattle.rsb_integer.proofs.lemmas.Members.{covers-bounds}
-use Rattle.range_set_blaze.specs.StreamLaws.{runs-exist}
+use Rattle.range_set_blaze.specs.laws.Stream.{runs-exist}
 use Rattle.range_set_blaze.specs.Order.{order as order_of}
-use Rattle.range_set_blaze.specs.OrderLaws.{order-holds}
+use Rattle.range_set_blaze.specs.laws.Order.{order-holds}
 use Rattle.range_set_blaze.specs.Set.{IsRunAround}
 use Rattle.rsb_command_parser.specs.declared.command.Command.{Command}
 use Rattle.rsb_command_parser.specs.declared.command.Command.TheVariants.{Add, Del, Has, Gap, Count, Show, Union, Intersection, Difference, SymmetricDifference, Complement, Most, Compare}

@@ -10,7 +10,7 @@ use Rattle.std.specs.Option.{IsSomeAnd}
 use Rattle.std.specs.Ordering.{int_cmp}
 use Rattle.std.specs.Prelude.{OnOk, slice_get}
 use Rattle.rsb_integer.specs.Rank.{signed_rank}
-use Rattle.rsb_integer.specs.RankLaws.{signed-in_order}
+use Rattle.rsb_integer.specs.laws.Rank.{signed-in_order}
 use Rattle.rsb_integer.specs.Runs.{Interval}
 use Rattle.rsb_integer.proofs.lemmas.Range.{one_place}
 use Rattle.rsb_command_parser.specs.declared.command.Command.{Command}

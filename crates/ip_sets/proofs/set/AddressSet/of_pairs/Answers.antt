@@ -50,7 +50,7 @@ joined-pairs g c =
 pub invariant_of-result : goal.invariant_of-result
 invariant_of-result g c =
     let are = joined-pairs g c in
-    (are.canonical, are.within)
+    record { apart = are.canonical; within = are.within }
 
 -- Pairs out of order have no addresses, and the others keep theirs.
 pub returns : goal.returns

@@ -15,5 +15,5 @@ returns g c =
       ranges = rw (← c.self.view_is) are;
       ready = rw are canonical;
       runs = rw (← c.self.view_is)
-          (canonical-runs g.T.Integer.value_count _ canonical.0 canonical.1);
+          (canonical-runs g.T.Integer.value_count _ canonical.apart canonical.within);
     }

@@ -15,10 +15,10 @@ returns-in-Some g c =
     let found = c.in-Some.ensures.lookup in
     let point = c.partition_point.ensures.partitioned (ends_before rank place)
     (always_returns_same _ _ _ (λ a r f' k. search rules))
-    (ends-partitioned rank place 0 runs c.requires.0) in
+    (ends-partitioned rank place 0 runs c.requires.apart) in
     ap (λ start. nat_le start place)
     (c.number.ensures.rank ∙ ap (λ (pair : _). rank pair.0) found.1)
-    ∙ sym (next-decides rank place 0 runs c.partition_point.result run c.requires.0 point found.3.0)
+    ∙ sym (next-decides rank place 0 runs c.partition_point.result run c.requires.apart point found.3.0)
     ∙ ap (members (spans_of rank runs)) c.number-number.ensures.rank
 
 -- All runs end before the address.
@@ -29,7 +29,7 @@ returns-in-None g c =
     let place = c.number-number.result in
     let point = c.partition_point.ensures.partitioned (ends_before rank place)
     (always_returns_same _ _ _ (λ a r f' k. search rules))
-    (ends-partitioned rank place 0 runs c.requires.0) in
-    sym (none-decides rank place 0 runs c.partition_point.result c.requires.0 point
+    (ends-partitioned rank place 0 runs c.requires.apart) in
+    sym (none-decides rank place 0 runs c.partition_point.result c.requires.apart point
     c.in-None.ensures.lookup.3)
     ∙ ap (members (spans_of rank runs)) c.number-number.ensures.rank
