@@ -5,6 +5,7 @@ mod element_types;
 mod elements;
 mod empty_sets;
 mod first_fit;
+mod first_values;
 mod hashes;
 mod headline;
 mod lacking;

@@ -4,10 +4,10 @@ ghost use Rattle.std.specs.Prelude.{◌+◌, ◌≤◌, ◌<◌, MatchOption, le
 ghost use Rattle.std.specs.Iterator.{at_most};
 ghost use Rattle.std.proofs.Common.{arith, rules};
 ghost use Rattle.rsb_integer.specs.Rank.{interval_of};
-ghost use Rattle.rsb_streams.specs.AscendingLaws.{ascending-keeps};
+ghost use Rattle.rsb_streams.specs.laws.Ascending.{ascending-keeps};
 ghost use Rattle.rsb_streams.specs.Calls.{gives_by};
-ghost use Rattle.rsb_streams.specs.CallsLaws.{gives_by-answers};
-ghost use Rattle.rsb_streams.specs.StreamLaws.{canonical_stream-starts, drawn-itself};
+ghost use Rattle.rsb_streams.specs.laws.Calls.{gives_by-answers};
+ghost use Rattle.rsb_streams.specs.laws.Stream.{canonical_stream-starts, drawn-itself};
 
 use rsb_integer::Integer;
 use rsb_streams::{Draw, DrawDisjoint, SortedDisjoint, SortedStarts};

@@ -4,11 +4,11 @@ ghost use Rattle.std.specs.Prelude.{◌+◌, ◌≤◌, ◌<◌, MatchOption, le
 ghost use Rattle.std.specs.Iterator.{at_most};
 ghost use Rattle.std.proofs.Common.{arith, rules};
 ghost use Rattle.rsb_integer.specs.Rank.{interval_of};
-ghost use Rattle.rsb_streams.specs.AscendingLaws.{touching-keeps};
+ghost use Rattle.rsb_streams.specs.laws.Ascending.{touching-keeps};
 ghost use Rattle.rsb_streams.specs.Calls.{gives_by};
-ghost use Rattle.rsb_streams.specs.CallsLaws.{gives_by-answers};
-ghost use Rattle.rsb_streams.specs.StreamLaws.{drawn-itself};
-ghost use Rattle.rsb_streams.specs.TouchingLaws.{touching-starts};
+ghost use Rattle.rsb_streams.specs.laws.Calls.{gives_by-answers};
+ghost use Rattle.rsb_streams.specs.laws.Stream.{drawn-itself};
+ghost use Rattle.rsb_streams.specs.laws.Touching.{touching-starts};
 
 use rsb_integer::Integer;
 use rsb_streams::{Draw, SortedStarts, SortedTouching};

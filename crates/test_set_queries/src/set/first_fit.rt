@@ -1,7 +1,20 @@
 //! The first gap and the first run of a given length, and tables that take blocks from the first
 //! gap with room for them.
 
-ghost use Rattle.std.specs.Prelude.{◌≡◌, ℕ, ◌&&◌, ◌+◌, ◌<◌, nat_le, nat_lt, List, IfOk, IfSome, IsNone, OnErr};
+ghost use Rattle.std.specs.Prelude.{
+  ◌≡◌,
+  ℕ,
+  ◌&&◌,
+  ◌+◌,
+  ◌<◌,
+  nat_le,
+  nat_lt,
+  List,
+  IfOk,
+  IfSome,
+  IsNone,
+  OnErr,
+};
 ghost use Rattle.range_set_blaze.specs.FirstFit.{IsFree};
 ghost use Rattle.range_set_blaze.specs.Runs.{Interval};
 ghost use Rattle.range_set_blaze.specs.Set.{Adds};

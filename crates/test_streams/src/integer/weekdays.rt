@@ -3,7 +3,15 @@
 ghost use Rattle.std.specs.Prelude.{[], ◌∷◌};
 ghost use Rattle.std.proofs.Common.{lit<, lit≤, refl};
 ghost use Rattle.rsb_integer.specs.Room.{have_room};
-ghost use Rattle.test_streams.specs.declared.integer.weekdays.Weekday.TheVariants.{Monday, Tuesday, Wednesday, Thursday, Friday, Saturday, Sunday};
+ghost use Rattle.test_streams.specs.declared.integer.weekdays.Weekday.TheVariants.{
+  Monday,
+  Tuesday,
+  Wednesday,
+  Thursday,
+  Friday,
+  Saturday,
+  Sunday,
+};
 
 use crate::integer::ends::{are_neighbors, calls_end_well, leads_across};
 use rsb_integer::{Element, Enumerated};

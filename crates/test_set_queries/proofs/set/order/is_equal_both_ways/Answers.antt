@@ -1,7 +1,7 @@
 use Rattle.std.proofs.Common.{◌≡◌, ◌∙◌, Bool, true, false, refl, sym, ap}
 use Rattle.std.specs.Bool.{beq}
 use Rattle.std.specs.Ordering.{is_eq}
-use Rattle.range_set_blaze.specs.OrderLaws.{sets_ties}
+use Rattle.range_set_blaze.specs.laws.Order.{sets_ties}
 use Rattle.test_set_queries.proofs.set.order.is_equal_both_ways.Goals as goal
 
 -- Every flag is equal to itself.
