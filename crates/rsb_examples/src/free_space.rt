@@ -1,6 +1,21 @@
 //! A table of taken pages: the first gap that is long enough, and what a failed allocation leaves.
 
-ghost use Rattle.std.specs.Prelude.{◌≡◌, ℕ, nat_le, nat_lt, ◌&&◌, ◌+◌, ◌^◌, ◌<◌, ◌≤◌, IfOk, IfSome, IsNone, OnErr, OnOk};
+ghost use Rattle.std.specs.Prelude.{
+  ◌≡◌,
+  ℕ,
+  nat_le,
+  nat_lt,
+  ◌&&◌,
+  ◌+◌,
+  ◌^◌,
+  ◌<◌,
+  ◌≤◌,
+  IfOk,
+  IfSome,
+  IsNone,
+  OnErr,
+  OnOk,
+};
 ghost use Rattle.range_set_blaze.specs.FirstFit.{IsFree};
 ghost use Rattle.range_set_blaze.specs.Set.{Adds, Removes};
 

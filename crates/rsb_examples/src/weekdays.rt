@@ -6,7 +6,15 @@ ghost use Rattle.range_set_blaze.specs.Room.{have_room};
 ghost use Rattle.range_set_blaze.specs.Runs.{members};
 ghost use Rattle.range_set_blaze.specs.Selection.{complement_in};
 ghost use Rattle.range_set_blaze.specs.Set.{IsSetOf};
-ghost use Rattle.rsb_examples.specs.declared.weekdays.Weekday.TheVariants.{Monday, Tuesday, Wednesday, Thursday, Friday, Saturday, Sunday};
+ghost use Rattle.rsb_examples.specs.declared.weekdays.Weekday.TheVariants.{
+  Monday,
+  Tuesday,
+  Wednesday,
+  Thursday,
+  Friday,
+  Saturday,
+  Sunday,
+};
 
 use range_set_blaze::{Element, Enumerated, Integer, RangeSetBlaze};
 use std::alloc::{AllocError, Global};
