@@ -38,16 +38,24 @@ def built(peer, original=None):
     return os.path.join(folder, "target", "release", peer)
 
 
-def made_room(folder, peer):
+def linked(source, target):
+    """Links a file, or copies it to another file system. `rt` replaces files, and never writes into them."""
+    try:
+        os.link(source, target)
+    except OSError:
+        shutil.copy2(source, target)
+
+
+def made_room(folder, peer, uses="range_set_blaze"):
     """The folder of a program `app`, a peer's `here.rattle` over copies of the libraries, made in a folder. Those that
     are built need not be proved again."""
     root = Path(HERE).parent
     for crate in (root / "crates").iterdir():
         for part in ("src", "specs", "proofs", "out/rlib"):
             if (crate / part).is_dir():
-                shutil.copytree(crate / part, folder / "crates" / crate.name / part)
+                shutil.copytree(crate / part, folder / "crates" / crate.name / part, copy_function=linked)
     shutil.copy(root / "HANDLES", folder)
-    (folder / "crates.txt").write_text((root / "crates.txt").read_text() + "app: range_set_blaze\n")
+    (folder / "crates.txt").write_text((root / "crates.txt").read_text() + f"app: {uses}\n")
     source = folder / "crates" / "app" / "src"
     source.mkdir(parents=True)
     shutil.copy(Path(HERE) / "peers" / peer / "here.rattle", source / "main.rt")

@@ -4,6 +4,7 @@
 //! Each line names what is done, how often, how many nanoseconds all of that took, and how many runs it left.
 
 use range_set_blaze::prelude::*;
+use std::env;
 use std::ops::RangeInclusive;
 use std::time::Instant;
 
@@ -26,20 +27,41 @@ fn set(first: i64, sets: i64) -> Set {
     (0..RUNS / sets).map(|turn| run(first + turn * sets)).collect()
 }
 
+/// How often a call is made that is usually made `often` times, or `None` if another one was asked for.
+fn asked(name: &str, often: i64) -> Option<i64> {
+    let words: Vec<String> = env::args().skip(1).collect();
+    match &words[..] {
+        [only, number] if only == name => number.parse().ok(),
+        [_, _] => None,
+        _ => Some(often),
+    }
+}
+
 fn time_union(sets: i64) {
+    let name = format!("union of {sets} sets");
+    let Some(often) = asked(&name, 1) else {
+        return;
+    };
     let all: Vec<Set> = (0..sets).map(|first| set(first, sets)).collect();
+    let mut runs = 0;
     let began = Instant::now();
-    let union = all.iter().union();
-    println!("union of {sets} sets 1 {} {}", began.elapsed().as_nanos(), union.ranges_len());
+    for _ in 0..often {
+        runs += all.iter().union().ranges_len();
+    }
+    println!("{name} {often} {} {runs}", began.elapsed().as_nanos());
 }
 
 fn time_insertions(runs: i64) {
+    let name = format!("insertion of {runs} runs");
+    let Some(often) = asked(&name, runs) else {
+        return;
+    };
     let mut set = Set::new();
     let began = Instant::now();
-    for turn in 0..runs {
+    for turn in 0..often {
         set.ranges_insert(run(turn * 7_919 % runs));
     }
-    println!("insertion of {runs} runs {runs} {} {}", began.elapsed().as_nanos(), set.ranges_len());
+    println!("{name} {often} {} {}", began.elapsed().as_nanos(), set.ranges_len());
 }
 
 fn main() {

@@ -1,8 +1,10 @@
 //! What a user of the published crate writes for the calls of `here.rattle`, timed one by one.
 //!
-//! Each line names a call, how often it was made, how many nanoseconds all of that took, and a sum of the answers.
+//! Each line names a call, how often it was made, how many nanoseconds all of that took, and a sum of the answers. With
+//! the name of a call and a number, the program makes that call so often, and no other.
 
 use range_set_blaze::prelude::*;
+use std::env;
 use std::hint::black_box;
 use std::ops::RangeInclusive;
 use std::time::Instant;
@@ -23,8 +25,19 @@ fn drawn(turn: i32) -> i32 {
     turn * 7_919 % RUNS * 10
 }
 
-/// Makes a call `often` times, and prints its line.
+/// How often a call is made that is usually made `often` times.
+fn asked(name: &str, often: i32) -> i32 {
+    let words: Vec<String> = env::args().skip(1).collect();
+    match &words[..] {
+        [only, number] if only == name => number.parse().unwrap_or(0),
+        [_, _] => 0,
+        _ => often,
+    }
+}
+
+/// Makes a call as often as was asked, and prints its line.
 fn timed(name: &str, often: i32, mut call: impl FnMut(i32) -> i64) {
+    let often = asked(name, often);
     let mut sum = 0i64;
     let began = Instant::now();
     for turn in 0..often {
