@@ -9,7 +9,7 @@ a ghost member of such a type or trait, a trait that it implements, or a field o
 without a colon are those of calls, or labels of calls that the row or the row above names. What is in parentheses is
 looked for only as a word. The text of a link to a source file has names of that file, and labels may follow.
 
-Definitions: a list of MODEL.md begins with their module. A name before the colon of an item is defined in that module,
+Definitions: a list of MODEL.md or LOOKAHEAD.md begins with their module. A name before the colon of an item is defined in that module,
 or in one that the item names in parentheses.
 
 Crates: ARCHITECTURE.md has each crate of crates.txt in its first table, with its lines of code and what it uses, in its
@@ -233,7 +233,7 @@ def lead_of(item):
 
 def place_of(name, places):
     """The crate and the module of a name such as `Rattle.rsb_many.specs.Many`, or `Many` for one named before."""
-    found = re.match(r"Rattle\.(\w+)\.specs\.(\w+)$", name)
+    found = re.match(r"Rattle\.(\w+)\.specs\.((?:laws\.)?\w+)$", name)
     return found.groups() if found else places.get(name)
 
 
@@ -352,7 +352,7 @@ def faults_of(page):
     yield from [*missing_paths(text), *wrong_links(page, text)]
     if page.name in ("PROVED.md", "TESTED.md"):
         yield from wrong_labels(text)
-    if page.name == "MODEL.md":
+    if page.name in ("MODEL.md", "LOOKAHEAD.md"):
         yield from wrong_modules(text)
     if page.name == "ARCHITECTURE.md":
         yield from wrong_architecture(page.read_text(), text)

@@ -15,8 +15,8 @@ MEMBER = re.compile(r' *(?:pub(?:\(\w+\))? )?(?:(?:const|final|unsafe|extern "C"
 LABEL = re.compile(r"\b(?:ensures|requires)\s+(\w+)\s*\{")
 DEFINITION = re.compile(r" *(?:(?:abbrev|unfoldable|pub|settled) )+(record |data )?([^\W\d]\w*(?:-\w+)*)")
 FIELD = re.compile(r" +(?:pub )?(\w+(?:, \w+)*) :")
-IMPORT = re.compile(r"use Rattle\.(\w+)\.specs\.(\w+)\.\{([^}]*)\}")
-EXPORT = re.compile(r"^pub use Rattle\.(\w+)\.specs\.(\w+)(?: as (\w+))?$", re.M)
+IMPORT = re.compile(r"use Rattle\.(\w+)\.specs\.((?:laws\.)?\w+)\.\{([^}]*)\}")
+EXPORT = re.compile(r"^pub use Rattle\.(\w+)\.specs\.((?:laws\.)?\w+)(?: as (\w+))?$", re.M)
 
 
 @dataclass
@@ -128,8 +128,10 @@ def imports_of(text):
 
 @lru_cache(maxsize=None)
 def module(crate, name):
-    """The definitions of a module of specs and what it imports, or None if there is no such module."""
-    path, root = CRATES / crate / "specs" / f"{name}.antt", CRATES / crate / "specs" / "Lib.antt"
+    """The definitions of a module of specs, such as `Runs` or `laws.Stream`, and what it imports, or None if there is
+    no such module."""
+    specs = CRATES / crate / "specs"
+    path, root = specs / f"{name.replace('.', '/')}.antt", specs / ("laws.antt" if name.startswith("laws.") else "Lib.antt")
     if path.exists():
         text = path.read_text()
         return definitions_of(text), imports_of(text)
@@ -157,10 +159,10 @@ def definitions_of(text):
 def definitions():
     """All definitions of specs: each name with the places where it is defined."""
     found = {}
-    for path in sorted(CRATES.glob("*/specs/*.antt")):
-        crate = path.relative_to(CRATES).parts[0]
-        for name in module(crate, path.stem)[0]:
-            found.setdefault(name, []).append((crate, path.stem))
+    for path in sorted(CRATES.glob("*/specs/**/*.antt")):
+        crate, _, *parts = path.relative_to(CRATES).with_suffix("").parts
+        for name in module(crate, ".".join(parts))[0]:
+            found.setdefault(name, []).append((crate, ".".join(parts)))
     return found
 
 
