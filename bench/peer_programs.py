@@ -1,5 +1,5 @@
 """Builds the programs under bench/peers/ with cargo, over the published crate or over sources of it in a folder, and
-makes the folders in which `rt` runs those over this library."""
+with `rt` those over this library."""
 
 import os
 import shutil
@@ -60,3 +60,12 @@ def made_room(folder, peer, uses="range_set_blaze"):
     source.mkdir(parents=True)
     shutil.copy(Path(HERE) / "peers" / peer / "here.rattle", source / "main.rt")
     return source.parent
+
+
+def proved(folder, peer):
+    """The path of a peer's program over this library, proved and built in a folder. It also runs once, with no words."""
+    room = made_room(Path(folder), peer)
+    made = subprocess.run(["rt", "run"], cwd=room, stdin=subprocess.DEVNULL, capture_output=True, text=True)
+    if made.returncode != 0:
+        sys.exit("rt run: " + "; ".join((made.stdout + made.stderr).splitlines()[-3:]))
+    return room / "out" / "app"

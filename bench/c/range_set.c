@@ -1,4 +1,4 @@
-/* The race for this library. Compile it with -DWIDTH=32 or -DWIDTH=64. */
+/* The programs for this library. Compile them with -DWIDTH=32 or -DWIDTH=64. */
 #define _POSIX_C_SOURCE 199309L
 #include "digest.h"
 
@@ -47,6 +47,24 @@ static void make_union(set_t *out, const set_t *left, const set_t *right) {
     made(CALL(union)(out, left, right));
 }
 
+static void make_union_of(set_t *out, const set_t *sets, size_t count) {
+    const set_t **handles = malloc(count * sizeof *handles);
+    if (handles == NULL) {
+        abort();
+    }
+    for (size_t i = 0; i < count; i++) {
+        handles[i] = &sets[i];
+    }
+    make_empty(out);
+    made(CALL(union_of)(out, handles, count));
+    free(handles);
+}
+
+static size_t count_runs(const set_t *set, size_t length) {
+    (void)length;
+    return CALL(run_count)(set);
+}
+
 static void make_intersection(set_t *out, const set_t *left, const set_t *right) {
     make_empty(out);
     made(CALL(intersection)(out, left, right));
@@ -86,4 +104,8 @@ static void print_version(void) {
     puts(RANGE_SET_VERSION);
 }
 
+#ifdef GROWTH
+#include "growth.h"
+#else
 #include "race.h"
+#endif

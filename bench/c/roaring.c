@@ -1,4 +1,4 @@
-/* The race for CRoaring. It has no call that gives runs, so a walk reads all members, and joins them. */
+/* The programs for CRoaring. It has no call that gives runs, so a walk reads all members, and joins them. */
 #define _POSIX_C_SOURCE 199309L
 #include "digest.h"
 
@@ -40,6 +40,22 @@ static void make_union(set_t *out, const set_t *left, const set_t *right) {
     *out = made(roaring_bitmap_or(*left, *right));
 }
 
+static void make_union_of(set_t *out, const set_t *sets, size_t count) {
+    const roaring_bitmap_t **pointers = malloc(count * sizeof *pointers);
+    if (pointers == NULL) {
+        abort();
+    }
+    for (size_t i = 0; i < count; i++) {
+        pointers[i] = sets[i];
+    }
+    *out = made(roaring_bitmap_or_many(count, pointers));
+    free(pointers);
+}
+
+static size_t count_runs(const set_t *set, size_t length) {
+    return roaring_bitmap_get_cardinality(*set) / length;
+}
+
 static void make_intersection(set_t *out, const set_t *left, const set_t *right) {
     *out = made(roaring_bitmap_and(*left, *right));
 }
@@ -69,4 +85,8 @@ static void print_version(void) {
     printf("%d.%d.%d\n", ROARING_VERSION_MAJOR, ROARING_VERSION_MINOR, ROARING_VERSION_REVISION);
 }
 
+#ifdef GROWTH
+#include "growth.h"
+#else
 #include "race.h"
+#endif

@@ -27,7 +27,7 @@ def relative(target, page):
 
 
 def link_of(target, page, to):
-    """Returns where a link of a page leads in the site. A file that is no page is copied as text."""
+    """Returns where a link of a page leads in the site. A picture is copied, and any other file that is no page as text."""
     name, _, anchor = target.partition("#")
     if not name or re.match(r"[a-z]+:", target) or name.endswith(".md"):
         return target
@@ -36,7 +36,7 @@ def link_of(target, page, to):
         return relative(FOLDERS[str(file)], page)
     if not (ROOT / file).is_file():
         sys.exit(f"{page}: the link {target} {LOST}")
-    copy = Path("files") / f"{file}.txt"
+    copy = file if file.suffix == ".svg" else Path("files") / f"{file}.txt"
     (to / copy).parent.mkdir(parents=True, exist_ok=True)
     shutil.copy(ROOT / file, to / copy)
     return relative(copy, page)

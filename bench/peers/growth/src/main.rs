@@ -1,70 +1,91 @@
-//! How the time of the published crate grows: a union of more and more sets that have as many runs together, and
-//! insertions into larger and larger sets. `here.rattle` prints the same lines.
+//! One call of the published crate, on sets of any size. `here.rattle` takes the same words and prints the same line.
 //!
-//! Each line names what is done, how often, how many nanoseconds all of that took, and how many runs it left.
+//!     growth CALL RUNS SETS OFTEN
+//!
+//! - `insertion` adds RUNS runs, one by one in a scattered order, to each of OFTEN new sets, and keeps these.
+//! - `look-up` asks a set of RUNS runs for OFTEN values.
+//! - `union` makes the union of SETS sets, which have RUNS runs together, OFTEN times.
+//!
+//! The line has the nanoseconds that all of that took, and the number of runs that were made or of members that were
+//! found. With OFTEN 0, the program only makes what the call needs.
 
 use range_set_blaze::prelude::*;
 use std::env;
 use std::ops::RangeInclusive;
 use std::time::Instant;
 
-/// How many runs the sets of a union have together.
-const RUNS: i64 = 1_000_000;
-/// How many sets a union has.
-const SETS: [i64; 5] = [1, 10, 100, 1_000, 10_000];
-/// How many runs are inserted.
-const INSERTIONS: [i64; 4] = [10_000, 100_000, 1_000_000, 10_000_000];
-
 type Set = RangeSetBlaze<i64>;
+
+/// What the command line asks for, without the call.
+struct Asked {
+    runs: i64,
+    sets: i64,
+    often: i64,
+}
+
+/// The first value of run `number`.
+fn start(number: i64) -> i64 {
+    10 * number
+}
 
 /// Run `number`: five values, apart from all other runs.
 fn run(number: i64) -> RangeInclusive<i64> {
-    10 * number..=10 * number + 4
+    start(number)..=start(number) + 4
 }
 
-/// One of the sets of a union. Of so many runs in a row, it has one.
-fn set(first: i64, sets: i64) -> Set {
-    (0..RUNS / sets).map(|turn| run(first + turn * sets)).collect()
+/// A number below `runs`. Turns from 0 to `runs` give each number once, in a scattered order.
+fn scattered(turn: i64, runs: i64) -> i64 {
+    turn * 7_919 % runs
 }
 
-/// How often a call is made that is usually made `often` times, or `None` if another one was asked for.
-fn asked(name: &str, often: i64) -> Option<i64> {
-    let words: Vec<String> = env::args().skip(1).collect();
-    match &words[..] {
-        [only, number] if only == name => number.parse().ok(),
-        [_, _] => None,
-        _ => Some(often),
+/// A set to which runs were added in a scattered order.
+fn filled(runs: i64) -> Set {
+    let mut set = Set::new();
+    for turn in 0..runs {
+        set.ranges_insert(run(scattered(turn, runs)));
     }
+    set
 }
 
-fn time_union(sets: i64) {
-    let name = format!("union of {sets} sets");
-    let Some(often) = asked(&name, 1) else {
-        return;
-    };
-    let all: Vec<Set> = (0..sets).map(|first| set(first, sets)).collect();
+/// One of the sets of a union. Of each `sets` runs in a row, it has one.
+fn share(first: i64, asked: &Asked) -> Set {
+    (0..asked.runs / asked.sets).map(|turn| run(first + turn * asked.sets)).collect()
+}
+
+fn time_insertions(asked: &Asked) {
+    let began = Instant::now();
+    let sets: Vec<Set> = (0..asked.often).map(|_| filled(asked.runs)).collect();
+    let passed = began.elapsed().as_nanos();
+    println!("{passed} {}", sets.iter().map(Set::ranges_len).sum::<usize>());
+}
+
+fn time_look_ups(asked: &Asked) {
+    let set = share(0, asked);
+    let mut members = 0;
+    let began = Instant::now();
+    for turn in 0..asked.often {
+        members += usize::from(set.contains(start(scattered(turn, asked.runs)) + turn % 10));
+    }
+    println!("{} {members}", began.elapsed().as_nanos());
+}
+
+fn time_unions(asked: &Asked) {
+    let shares: Vec<Set> = (0..asked.sets).map(|first| share(first, asked)).collect();
     let mut runs = 0;
     let began = Instant::now();
-    for _ in 0..often {
-        runs += all.iter().union().ranges_len();
+    for _ in 0..asked.often {
+        runs += shares.iter().union().ranges_len();
     }
-    println!("{name} {often} {} {runs}", began.elapsed().as_nanos());
-}
-
-fn time_insertions(runs: i64) {
-    let name = format!("insertion of {runs} runs");
-    let Some(often) = asked(&name, runs) else {
-        return;
-    };
-    let mut set = Set::new();
-    let began = Instant::now();
-    for turn in 0..often {
-        set.ranges_insert(run(turn * 7_919 % runs));
-    }
-    println!("{name} {often} {} {}", began.elapsed().as_nanos(), set.ranges_len());
+    println!("{} {runs}", began.elapsed().as_nanos());
 }
 
 fn main() {
-    SETS.into_iter().for_each(time_union);
-    INSERTIONS.into_iter().for_each(time_insertions);
+    let words: Vec<String> = env::args().skip(1).collect();
+    let number = |place: usize| words[place].parse().expect("a number");
+    let asked = Asked { runs: number(1), sets: number(2), often: number(3) };
+    match words[0].as_str() {
+        "insertion" => time_insertions(&asked),
+        "look-up" => time_look_ups(&asked),
+        _ => time_unions(&asked),
+    }
 }
