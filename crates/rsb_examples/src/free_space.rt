@@ -77,7 +77,8 @@ pub fn give_back(taken: &mut RangeSetBlaze<u16>, start: u16, pages: u16) -> Resu
         (λ page. nat_le start page && nat_lt page (start + pages))) }
     ensures err { OnErr result (taken.new ≡ taken.old) }
 {
-    taken.ranges_remove(start..=start + (pages - 1))
+    let was_taken = taken.ranges_remove(start..=start + (pages - 1))?;
+    Ok(was_taken)
 }
 
 /// Where the first free block of the given number of pages starts, or `None` if there is none.
