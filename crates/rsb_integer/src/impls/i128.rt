@@ -42,7 +42,9 @@ impl Integer for i128 {
     }
 
     fn safe_len(range: &RangeInclusive<i128>) -> UIntPlusOne<u128> {
-        UIntPlusOne::UInt(range.end().abs_diff(*range.start())) + UIntPlusOne::UInt(1)
+        let start = range.start().cast_unsigned();
+        let steps = range.end().cast_unsigned().wrapping_sub(start);
+        UIntPlusOne::UInt(steps) + UIntPlusOne::UInt(1)
     }
 
     fn inclusive_end_from_start(self, b: UIntPlusOne<u128>) -> i128 {

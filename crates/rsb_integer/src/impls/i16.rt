@@ -41,7 +41,9 @@ impl Integer for i16 {
     }
 
     fn safe_len(range: &RangeInclusive<i16>) -> u32 {
-        u32::from(range.end().abs_diff(*range.start())) + 1
+        let start = range.start().cast_unsigned();
+        let steps = range.end().cast_unsigned().wrapping_sub(start);
+        u32::from(steps) + 1
     }
 
     fn inclusive_end_from_start(self, b: u32) -> i16 {

@@ -41,7 +41,9 @@ impl Integer for i64 {
     }
 
     fn safe_len(range: &RangeInclusive<i64>) -> u128 {
-        u128::from(range.end().abs_diff(*range.start())) + 1
+        let start = range.start().cast_unsigned();
+        let steps = range.end().cast_unsigned().wrapping_sub(start);
+        u128::from(steps) + 1
     }
 
     fn inclusive_end_from_start(self, b: u128) -> i64 {

@@ -41,7 +41,9 @@ impl Integer for i8 {
     }
 
     fn safe_len(range: &RangeInclusive<i8>) -> u16 {
-        u16::from(range.end().abs_diff(*range.start())) + 1
+        let start = range.start().cast_unsigned();
+        let steps = range.end().cast_unsigned().wrapping_sub(start);
+        u16::from(steps) + 1
     }
 
     fn inclusive_end_from_start(self, b: u16) -> i8 {

@@ -41,7 +41,9 @@ impl Integer for isize {
     }
 
     fn safe_len(range: &RangeInclusive<isize>) -> u128 {
-        range.end().abs_diff(*range.start()) as u128 + 1
+        let start = range.start().cast_unsigned();
+        let steps = range.end().cast_unsigned().wrapping_sub(start);
+        steps as u128 + 1
     }
 
     fn inclusive_end_from_start(self, b: u128) -> isize {
