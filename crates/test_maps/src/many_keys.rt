@@ -23,18 +23,26 @@ fn pairs(alloc: Global) -> Result<Map, AllocError> {
     Ok(map)
 }
 
-/// Whether the values add up, from the front and from the back.
+/// Whether the values add up, from the front.
 fn values_add_up(map: &Map) -> bool {
     let mut sum = 0u64;
     for value in map.values() {
         sum = sum.saturating_add(u64::from(*value));
     }
-    let mut back = 0u64;
+    sum == SUM
+}
+
+/// Whether the values of twenty thousand keys add up, from the back, and there is no other key.
+fn values_add_up_from_the_back(map: &Map) -> bool {
+    let mut sum = 0u64;
     let mut pairs = map.iter();
-    while let Some((_, value)) = pairs.next_back() {
-        back = back.saturating_add(u64::from(*value));
+    for _ in 0..20_000 {
+        let Some((_, value)) = pairs.next_back() else {
+            return false;
+        };
+        sum = sum.saturating_add(u64::from(*value));
     }
-    sum == SUM && back == SUM
+    sum == SUM && pairs.next_back().is_none()
 }
 
 /// Whether the owned values add up, and there are as many owned keys.
@@ -105,6 +113,7 @@ fn shown(alloc: Global, map: &Map) -> Result<usize, AllocError> {
 fn twenty_thousand_keys_are_walked(rt: HostRuntime) -> Result<(), Fail> {
     let map = pairs(rt.alloc())?;
     assert!(rt; values_add_up(&map));
+    assert!(rt; values_add_up_from_the_back(&map));
     assert!(rt; owned_values_add_up(&map)?);
     assert!(rt; part_is_walked(&map)?);
     assert!(rt; shown(rt.alloc(), &map)? == 10_000);
