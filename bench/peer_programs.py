@@ -8,6 +8,8 @@ import sys
 from pathlib import Path
 
 HERE = os.path.dirname(os.path.abspath(__file__))
+# The peers that are written over Rust's `BTreeMap`.
+WITHOUT_ORIGINAL = ("maps", "tree")
 ORIGINAL_HELP = """folder of the original crate, with its Cargo.toml, in place of the one that cargo fetches; a
 .cargo/config.toml in it or above it says where cargo finds what that crate depends on"""
 
@@ -29,7 +31,7 @@ def built(peer, original=None):
     """The path of a peer's program, or None if it can't be built, which standard error then says."""
     folder = os.path.join(HERE, "peers", peer)
     words = ["cargo", "build", "--release", "--quiet"]
-    if original and peer != "tree":
+    if original and peer not in WITHOUT_ORIGINAL:
         words += original_flags(original)
     made = subprocess.run(words, cwd=folder, stderr=subprocess.PIPE, text=True)
     if made.returncode != 0:
@@ -62,9 +64,9 @@ def made_room(folder, peer, uses="range_set_blaze"):
     return source.parent
 
 
-def proved(folder, peer):
+def proved(folder, peer, uses="range_set_blaze"):
     """The path of a peer's program over this library, proved and built in a folder. It also runs once, with no words."""
-    room = made_room(Path(folder), peer)
+    room = made_room(Path(folder), peer, uses)
     made = subprocess.run(["rt", "run"], cwd=room, stdin=subprocess.DEVNULL, capture_output=True, text=True)
     if made.returncode != 0:
         sys.exit("rt run: " + "; ".join((made.stdout + made.stderr).splitlines()[-3:]))

@@ -14,6 +14,8 @@ mod keys;
 #[cfg(test)]
 mod many_calls;
 #[cfg(test)]
+mod many_keys;
+#[cfg(test)]
 mod many_ranges;
 #[cfg(test)]
 mod refusals;
