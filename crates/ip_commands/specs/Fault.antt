@@ -9,7 +9,7 @@ use Rattle.ip_commands.specs.declared.commands.Outcome.TheVariants.{BadLines, Di
 use Rattle.ip_commands.specs.declared.fault.Fault.{Fault}
 use Rattle.ip_commands.specs.declared.fault.Fault.TheVariants.{BadLine, CommandLine, NoMemory, NotRead, NotWritten}
 use Rattle.ip_commands.specs.declared.fault.Misuse.{Misuse}
-use Rattle.ip_commands.specs.declared.fault.Misuse.TheVariants.{ExtraWord, MissingAddress, MissingFile, MissingNumber, NoAddress, NoCommand, NoNumber, NotText, UnknownCommand, UnknownOption}
+use Rattle.ip_commands.specs.declared.fault.Misuse.TheVariants.{ExtraWord, MissingAddress, MissingFile, MissingNumber, NoAddress, NoCommand, NoNumber, NotText, RepeatedInput, UnknownCommand, UnknownOption}
 
 -- What is wrong with a command line, in words.
 abbrev pub misuse_text : Misuse → List ℕ
@@ -22,6 +22,7 @@ misuse_text (ExtraWord word) = codes "a word too many: " ++ word.now
 misuse_text MissingFile = codes "missing FILE after the command"
 misuse_text MissingNumber = codes "missing K and FILE after the command"
 misuse_text MissingAddress = codes "missing ADDRESS and FILE after the command"
+misuse_text RepeatedInput = codes "standard input (-) more than once"
 misuse_text NotText = codes "an argument is not UTF-8"
 
 -- The line that reports a fault, without its line feed. The system's words for a failed read or

@@ -21,10 +21,12 @@ ghost use Rattle.std.specs.Prelude.{
 ghost use Rattle.std.specs.Option.{option_or};
 ghost use Rattle.ip_commands.specs.CommandLine.{
   AreArguments,
+  IsCommand,
   IsMisuse,
-  IsRequest,
+  IsMisuseOfCommand,
   IsMisuseOfOperands,
   IsOperation,
+  IsRequest,
   IsRequestWith,
   IsWordFault,
   families_asked,
@@ -32,7 +34,9 @@ ghost use Rattle.ip_commands.specs.CommandLine.{
   is_dashed,
   is_known,
   question_asked,
+  repeats_input,
 };
+ghost use Rattle.ip_commands.specs.Request.{files_of};
 
 use crate::fault::{Fault, Misuse};
 use crate::request::{Combination, Diff, Families, Form, Request};
@@ -120,7 +124,7 @@ impl<'a, A: Allocator> Arguments<'a, A> {
         match self.options.question {
             Some(Question::Help) => Ok(Request::Help),
             Some(Question::Version) => Ok(Request::Version),
-            None => request_of(self.options, &self.operands),
+            None => command_of(self.options, &self.operands),
         }
     }
 }
@@ -157,10 +161,45 @@ fn with_option<'a>(options: Options, word: &'a str) -> Result<Options, Misuse<'a
     Ok(options)
 }
 
-// Returns what a command and the words after it ask for.
+// Returns what a command and the words after it ask for. Standard input can be read only once.
+fn command_of<'a>(options: Options, operands: &'a [&'a str]) -> Result<Request<'a>, Misuse<'a>>
+    ensures { MatchResult result
+        (IsCommand options (map (λ word. word.now) operands.now))
+        (IsMisuseOfCommand options (map (λ word. word.now) operands.now)) }
+{
+    let request = request_of(options, operands)?;
+    if rereads_input(request) {
+        return Err(Misuse::RepeatedInput);
+    }
+    Ok(request)
+}
+
+// Returns whether a request reads standard input more than once.
+fn rereads_input(request: Request<'_>) -> bool
+    ensures { result ≡ repeats_input (files_of request.entry) }
+{
+    match request {
+        Request::Help => false,
+        Request::Version => false,
+        Request::Combine(combination) => repeats_input(combination.files),
+        Request::Count { files, .. } => repeats_input(files),
+        Request::Has { files, .. } => repeats_input(files),
+        Request::Diff(diff) => repeats_input(&[diff.old, diff.new]),
+        Request::Check { files } => repeats_input(files),
+    }
+}
+
+// Returns whether standard input is among the files more than once.
+fn repeats_input(files: &[&str]) -> bool
+    ensures { result ≡ repeats_input (map (λ name. name.now) files.now) }
+{
+    files.iter().filter(|file| **file == "-").count() > 1
+}
+
+// Returns what a command and the words after it ask for, however often it reads standard input.
 fn request_of<'a>(options: Options, operands: &'a [&'a str]) -> Result<Request<'a>, Misuse<'a>>
     ensures { MatchResult result
-        (IsRequestWith options.form options.families (map (λ word. word.now) operands.now))
+        (IsRequestWith options (map (λ word. word.now) operands.now))
         (IsMisuseOfOperands (map (λ word. word.now) operands.now)) }
 {
     let [command, words @ ..] = operands else {
@@ -189,7 +228,7 @@ fn combination<'a>(
 ) -> Result<Request<'a>, Misuse<'a>>
     ensures request { (operands : List (List ℕ))
         → IsOperation operands operation (map (λ name. name.now) files.now)
-        → IfOk result (IsRequestWith options.form options.families operands) }
+        → IfOk result (IsRequestWith options operands) }
     ensures misuse { IfErr result (λ misuse. (misuse ≡ Misuse.MissingFile)
         × (files.now ≡ [])) }
 {
@@ -206,7 +245,7 @@ fn combination<'a>(
 
 // Returns what `except` and the words after it ask for.
 fn except<'a>(options: Options, files: &'a [&'a str]) -> Result<Request<'a>, Misuse<'a>>
-    ensures request { IfOk result (IsRequestWith options.form options.families
+    ensures request { IfOk result (IsRequestWith options
         (codes "except" ∷ map (λ name. name.now) files.now)) }
     ensures misuse { IfErr result (IsMisuseOfOperands
         (codes "except" ∷ map (λ name. name.now) files.now)) }
@@ -219,7 +258,7 @@ fn except<'a>(options: Options, files: &'a [&'a str]) -> Result<Request<'a>, Mis
 
 // Returns what `at-least` and the words after it ask for.
 fn at_least<'a>(options: Options, words: &'a [&'a str]) -> Result<Request<'a>, Misuse<'a>>
-    ensures request { IfOk result (IsRequestWith options.form options.families
+    ensures request { IfOk result (IsRequestWith options
         (codes "at-least" ∷ map (λ word. word.now) words.now)) }
     ensures misuse { IfErr result (IsMisuseOfOperands
         (codes "at-least" ∷ map (λ word. word.now) words.now)) }
@@ -238,7 +277,7 @@ fn at_least<'a>(options: Options, words: &'a [&'a str]) -> Result<Request<'a>, M
 
 // Returns what `count` and the words after it ask for.
 fn count<'a>(options: Options, files: &'a [&'a str]) -> Result<Request<'a>, Misuse<'a>>
-    ensures request { IfOk result (IsRequestWith options.form options.families
+    ensures request { IfOk result (IsRequestWith options
         (codes "count" ∷ map (λ name. name.now) files.now)) }
     ensures misuse { IfErr result (IsMisuseOfOperands
         (codes "count" ∷ map (λ name. name.now) files.now)) }
@@ -254,7 +293,7 @@ fn count<'a>(options: Options, files: &'a [&'a str]) -> Result<Request<'a>, Misu
 
 // Returns what `has` and the words after it ask for.
 fn has<'a>(options: Options, words: &'a [&'a str]) -> Result<Request<'a>, Misuse<'a>>
-    ensures request { IfOk result (IsRequestWith options.form options.families
+    ensures request { IfOk result (IsRequestWith options
         (codes "has" ∷ map (λ word. word.now) words.now)) }
     ensures misuse { IfErr result (IsMisuseOfOperands
         (codes "has" ∷ map (λ word. word.now) words.now)) }
@@ -273,7 +312,7 @@ fn has<'a>(options: Options, words: &'a [&'a str]) -> Result<Request<'a>, Misuse
 
 // Returns what `check` and the words after it ask for.
 fn check<'a>(options: Options, files: &'a [&'a str]) -> Result<Request<'a>, Misuse<'a>>
-    ensures request { IfOk result (IsRequestWith options.form options.families
+    ensures request { IfOk result (IsRequestWith options
         (codes "check" ∷ map (λ name. name.now) files.now)) }
     ensures misuse { IfErr result (IsMisuseOfOperands
         (codes "check" ∷ map (λ name. name.now) files.now)) }
@@ -286,7 +325,7 @@ fn check<'a>(options: Options, files: &'a [&'a str]) -> Result<Request<'a>, Misu
 
 // Returns what `diff` and the words after it ask for.
 fn diff<'a>(options: Options, words: &'a [&'a str]) -> Result<Request<'a>, Misuse<'a>>
-    ensures request { IfOk result (IsRequestWith options.form options.families
+    ensures request { IfOk result (IsRequestWith options
         (codes "diff" ∷ map (λ word. word.now) words.now)) }
     ensures misuse { IfErr result (IsMisuseOfOperands
         (codes "diff" ∷ map (λ word. word.now) words.now)) }

@@ -9,10 +9,11 @@ use Rattle.std.specs.Bool.{Decides}
 use Rattle.std.specs.List.{filter, filter_map, find, last_or, list_any}
 use Rattle.std.specs.Option.{IsSomeAnd, option_or}
 use Rattle.std.specs.Prelude.{Err, IfErr, IfOk, MatchResult, Ok, Result, ◌==◌, bytes_eq, codes, if◌then◌else◌, slice_index_or, unwrap_or}
-use Rattle.ip_commands.specs.CommandLine.{AreArguments, IsMisuseOfOperands, IsRequestWith, after_mark, before_mark, families_asked, first_unknown, form_asked, is_dashed, is_known, is_mark, operands_of, options_of, question_asked, words_needed}
+use Rattle.ip_commands.specs.CommandLine.{AreArguments, IsMisuseOfCommand, IsMisuseOfOperands, IsRequestWith, after_mark, asked_by, before_mark, families_asked, first_unknown, form_asked, is_dashed, is_known, is_mark, operands_of, options_of, question_asked, words_needed}
 use Rattle.ip_commands.specs.declared.arguments.Arguments.{Arguments}
+use Rattle.ip_commands.specs.declared.arguments.Options.{Options}
 use Rattle.ip_commands.specs.declared.fault.Misuse.{Misuse}
-use Rattle.ip_commands.specs.declared.fault.Misuse.TheVariants.{MissingFile}
+use Rattle.ip_commands.specs.declared.fault.Misuse.TheVariants.{ExtraWord, MissingAddress, MissingFile, MissingNumber, NoAddress, NoCommand, NoNumber, NotText, RepeatedInput, UnknownCommand, UnknownOption}
 use Rattle.ip_commands.specs.declared.request.Families.{Families}
 use Rattle.ip_commands.specs.declared.request.Families.TheVariants.{Both}
 use Rattle.ip_commands.specs.declared.request.Form.{Form}
@@ -217,6 +218,33 @@ pub either-default : {X : Type 0} (new old : Option X) (default : X)
 either-default None old default = refl
 either-default (Some value) old default = refl
 
+-- What the options ask for with one more.
+abbrev pub option_added : List ℕ → Options → Options
+option_added word options = record {
+  form = unwrap_or (form_asked word) options.form;
+  families = unwrap_or (families_asked word) options.families;
+  question = option_or (question_asked word) options.question;
+}
+
+-- Options that are the same in each part are the same.
+pub options-equal : (some other : Options) → some.form ≡ other.form
+    → some.families ≡ other.families → some.question ≡ other.question → some ≡ other
+options-equal some other form families question =
+    ap (λ each. record some { form = each }) form
+    ∙ ap (λ each. record some { form = other.form; families = each }) families
+    ∙ ap (λ each. record other { question = each }) question
+
+-- One more option adds what it asks for.
+pub asked-more : (options : List (List ℕ)) (word : List ℕ)
+    → asked_by (options ++ word ∷ []) ≡ option_added word (asked_by options)
+asked-more options word =
+    options-equal (asked_by (options ++ word ∷ [])) (option_added word (asked_by options))
+    (ap (λ each. unwrap_or each Blocks) (last-more form_asked None options word)
+    ∙ either-default (form_asked word) (last_or None (filter_map form_asked options)) Blocks)
+    (ap (λ each. unwrap_or each Both) (last-more families_asked None options word)
+    ∙ either-default (families_asked word) (last_or None (filter_map families_asked options)) Both)
+    (last-more question_asked None options word)
+
 -- ---- slices
 
 -- The first word of a slice, and the others.
@@ -257,14 +285,14 @@ some-mapped f xs some = rw (length-map xs f) some
 -- ---- commands
 
 -- What an operation on files asks for, or that there are too few files.
-pub of-operation : (form : Form) (families : Families) (operands : List (List ℕ)) (command : List ℕ)
+pub of-operation : (options : Options) (operands : List (List ℕ)) (command : List ℕ)
     (files : List (Bor (List ℕ))) (result : Result Request Misuse)
     → operands ≡ command ∷ map (λ name. name.now) files → words_needed command ≡ Some 1
-    → IfOk result (IsRequestWith form families operands)
+    → IfOk result (IsRequestWith options operands)
     → IfErr result (λ misuse. (misuse ≡ MissingFile) × (files ≡ []))
-    → MatchResult result (IsRequestWith form families operands) (IsMisuseOfOperands operands)
-of-operation form families operands command files (Ok request) parts needs asks few = asks
-of-operation form families operands command files (Err misuse) parts needs asks few =
+    → MatchResult result (IsRequestWith options operands) (IsMisuseOfOperands operands)
+of-operation options operands command files (Ok request) parts needs asks few = asks
+of-operation options operands command files (Err misuse) parts needs asks few =
     let none : length (map (λ (name : Bor (List ℕ)). name.now) files) < 1 =
     subst (λ (each : List (Bor (List ℕ))). length (map (λ name. name.now) each) < 1) (sym few.1)
     (lit< tt) in
@@ -278,15 +306,30 @@ of-operation form families operands command files (Err misuse) parts needs asks 
     subst (IsMisuseOfOperands operands) (sym few.0) whole
 
 -- What a command and other words ask for, or what is wrong with them.
-pub of-command : (form : Form) (families : Families) (operands others : List (List ℕ))
+pub of-command : (options : Options) (operands others : List (List ℕ))
     (result : Result Request Misuse) → operands ≡ others
-    → IfOk result (IsRequestWith form families others)
+    → IfOk result (IsRequestWith options others)
     → IfErr result (IsMisuseOfOperands others)
-    → MatchResult result (IsRequestWith form families operands) (IsMisuseOfOperands operands)
-of-command form families operands others (Ok request) same asks wrong =
-    subst (λ words. IsRequestWith form families words request) (sym same) asks
-of-command form families operands others (Err misuse) same asks wrong =
+    → MatchResult result (IsRequestWith options operands) (IsMisuseOfOperands operands)
+of-command options operands others (Ok request) same asks wrong =
+    subst (λ words. IsRequestWith options words request) (sym same) asks
+of-command options operands others (Err misuse) same asks wrong =
     subst (λ words. IsMisuseOfOperands words misuse) (sym same) wrong
+
+-- What is wrong with the operands comes before repeated input.
+pub misuse-first : (options : Options) (operands : List (List ℕ)) (misuse : Misuse)
+    → IsMisuseOfOperands operands misuse → IsMisuseOfCommand options operands misuse
+misuse-first options operands NoCommand is = is
+misuse-first options operands (UnknownCommand word) is = is
+misuse-first options operands (UnknownOption word) is = is
+misuse-first options operands (NoNumber word) is = is
+misuse-first options operands (NoAddress word) is = is
+misuse-first options operands (ExtraWord word) is = is
+misuse-first options operands MissingFile is = is
+misuse-first options operands MissingNumber is = is
+misuse-first options operands MissingAddress is = is
+misuse-first options operands RepeatedInput is = absurd is
+misuse-first options operands NotText is = is
 
 -- A word that is none of the commands.
 pub no-command : (word : List ℕ) → word ≢ codes "union" → word ≢ codes "common"
@@ -393,14 +436,7 @@ module _ (words : List (List ℕ)) (word : List ℕ) where
         record {
           known = ap (λ each. find (λ (option : List ℕ). not (is_known option)) each) same-options
               ∙ are.known;
-          form = ap (λ each. each.form) options ∙ are.form
-              ∙ sym (ap (λ each. unwrap_or (last_or None (filter_map form_asked each)) Blocks)
-              same-options);
-          families = ap (λ each. each.families) options ∙ are.families
-              ∙ sym (ap (λ each. unwrap_or (last_or None (filter_map families_asked each)) Both)
-              same-options);
-          question = ap (λ each. each.question) options ∙ are.question
-              ∙ sym (ap (λ each. last_or None (filter_map question_asked each)) same-options);
+          options = options ∙ are.options ∙ sym (ap asked_by same-options);
           operands = items ∙ ap (λ each. each ++ word ∷ []) are.operands
               ∙ sym (more-operand-operands marked);
           ended = ended ∙ are.ended ∙ sym (more-operand-ended marked);
@@ -419,14 +455,7 @@ module _ (words : List (List ℕ)) (word : List ℕ) where
         record {
           known = ap (λ each. find (λ (option : List ℕ). not (is_known option)) each) same-options
               ∙ are.known;
-          form = ap (λ each. each.form) options ∙ are.form
-              ∙ sym (ap (λ each. unwrap_or (last_or None (filter_map form_asked each)) Blocks)
-              same-options);
-          families = ap (λ each. each.families) options ∙ are.families
-              ∙ sym (ap (λ each. unwrap_or (last_or None (filter_map families_asked each)) Both)
-              same-options);
-          question = ap (λ each. each.question) options ∙ are.question
-              ∙ sym (ap (λ each. last_or None (filter_map question_asked each)) same-options);
+          options = options ∙ are.options ∙ sym (ap asked_by same-options);
           operands = items ∙ are.operands ∙ sym (append-nil (operands_of words))
               ∙ ap (λ each. operands_of words ++ each) (sym (mark-operand word mark))
               ∙ sym (operands-unmarked words (word ∷ []) none);
@@ -453,22 +482,9 @@ module _ (words : List (List ℕ)) (word : List ℕ) where
               (word ∷ [])
               ∙ ap (λ each. option_or each (cond (not (is_known word)) (Some word) None)) are.known
               ∙ known-passes word (is_known word) known;
-          form = form ∙ ap (λ each. unwrap_or (form_asked word) each) are.form
-              ∙ sym (ap (λ each. unwrap_or (last_or None (filter_map form_asked each)) Blocks) more
-              ∙ ap (λ each. unwrap_or each Blocks)
-              (last-more form_asked None (options_of words) word)
-              ∙ either-default (form_asked word)
-              (last_or None (filter_map form_asked (options_of words))) Blocks);
-          families = families ∙ ap (λ each. unwrap_or (families_asked word) each) are.families
-              ∙ sym (ap (λ each. unwrap_or (last_or None (filter_map families_asked each)) Both)
-              more
-              ∙ ap (λ each. unwrap_or each Both)
-              (last-more families_asked None (options_of words) word)
-              ∙ either-default (families_asked word)
-              (last_or None (filter_map families_asked (options_of words))) Both);
-          question = question ∙ ap (λ each. option_or (question_asked word) each) are.question
-              ∙ sym (ap (λ each. last_or None (filter_map question_asked each)) more
-              ∙ last-more question_asked None (options_of words) word);
+          options = options-equal new.options (option_added word old.options) form families question
+              ∙ ap (option_added word) are.options
+              ∙ sym (ap asked_by more ∙ asked-more (options_of words) word);
           operands = items ∙ are.operands ∙ sym (append-nil (operands_of words))
               ∙ ap (λ each. operands_of words ++ each) (sym (dashed-operand word other dashed))
               ∙ sym (operands-unmarked words (word ∷ []) none);

@@ -27,7 +27,7 @@ pub(crate) static FILES: [(&str, &[u8]); 8] = [
 type Row = (&'static [&'static str], u8, &'static str);
 
 /// Commands without a fault.
-static ROWS: [Row; 55] = [
+static ROWS: [Row; 56] = [
     (
         &["union", "a", "b"],
         0,
@@ -181,6 +181,7 @@ static ROWS: [Row; 55] = [
     ),
     (&["-h"], 0, HELP),
     (&["--help"], 0, HELP),
+    (&["--help", "union", "-", "-"], 0, HELP),
     (&["--version", "unite", "--help"], 0, HELP),
     (&["union", "--version"], 0, VERSION),
 ];
