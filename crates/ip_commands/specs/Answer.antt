@@ -1,5 +1,5 @@
 -- The answers to requests.
-use Rattle.std.specs.Prelude.{◌≡◌, ℕ, ◌-◌, ◌^◌, Bool, List, [], ◌∷◌, ◌++◌, Option, codes, IfSome, decimal, filter, flat_map, length, map, min, zip}
+use Rattle.std.specs.Prelude.{◌≡◌, ℕ, ◌-◌, ◌^◌, Bool, not, ◌&&◌, List, [], ◌∷◌, ◌++◌, Option, codes, if◌then◌else◌, IfSome, decimal, filter, flat_map, length, map, min, zip}
 use Rattle.std.specs.List.{AllZip}
 use Rattle.std.specs.Str.Lines.{lines}
 use Rattle.std.specs.Io.KnownBytes.{Appends}
@@ -10,14 +10,14 @@ use Rattle.range_set_blaze.specs.Runs.{Interval, IsCanonicalIn, members}
 use Rattle.range_set_blaze.specs.Selection.{Agree, Selection, any_of, count, difference}
 use Rattle.ip_sets.specs.Blocks.{AreMaximalBlocks}
 use Rattle.ip_sets.specs.declared.list.bad_line.BadLine.{BadLine as Report}
-use Rattle.ip_sets.specs.List.{AreReportsFrom, reports_text}
+use Rattle.ip_sets.specs.List.{AreReportsFrom, has_bytes, reports_text}
 use Rattle.ip_sets.specs.Operation.{selected_by}
 use Rattle.ip_commands.specs.Files.{AreFilesOf, IsFileOf, Selected}
 use Rattle.ip_commands.specs.Text.{IsListText, IsSignedList, kept_v4, kept_v6}
 use Rattle.ip_commands.specs.declared.request.Diff.{Diff}
 use Rattle.ip_commands.specs.declared.request.Form.{Form}
 use Rattle.ip_commands.specs.declared.commands.Outcome.{Outcome}
-use Rattle.ip_commands.specs.declared.commands.Outcome.TheVariants.{BadLines, Differs, Done, InNone}
+use Rattle.ip_commands.specs.declared.commands.Outcome.TheVariants.{BadLines, Differs, Done, Empty, InNone}
 use Rattle.ip_commands.specs.declared.commands.TheConstants.{HELP, VERSION}
 use Rattle.ip_commands.specs.declared.request.Request.{Request}
 use Rattle.ip_commands.specs.declared.request.Combination.{Combination}
@@ -32,6 +32,12 @@ v4_of lists = map (λ list. list.v4) lists
 -- The IPv6 addresses of each list.
 abbrev pub v6_of : List Selected → List Selection
 v6_of lists = map (λ list. list.v6) lists
+
+-- ---- what an operation selects
+
+-- How an operation ends that writes this text: as a failure if it is empty and that is asked for.
+abbrev pub combined_outcome : Bool → List ℕ → Outcome
+combined_outcome fail_empty text = if fail_empty && not (has_bytes text) then Empty else Done
 
 -- ---- counts
 
@@ -185,8 +191,8 @@ module _ (bytes : List ℕ → Option (List ℕ)) where
   abbrev pub Answers : Request → Outcome → Option (List ℕ) → Option (List ℕ) → Type 0
   Answers Help outcome old new = (outcome ≡ Done) × Appends old new HELP.now
   Answers Version outcome old new = (outcome ≡ Done) × Appends old new VERSION.now
-  Answers (Combine it) outcome old new =
-      (outcome ≡ Done) × ((text : List ℕ) × IsCombined it text × Appends old new text)
+  Answers (Combine it) outcome old new = (text : List ℕ) × IsCombined it text
+      × (outcome ≡ combined_outcome it.fail_empty text) × Appends old new text
   Answers (Count families files) outcome old new = (outcome ≡ Done)
       × ((text : List ℕ) × IsCounted families (map (λ name. name.now) files.now) text
       × Appends old new text)

@@ -71,10 +71,14 @@ question_asked word = if bytes_eq word (codes "-h") then Some Asked.Help
     else (if bytes_eq word (codes "--help") then Some Asked.Help
     else (if bytes_eq word (codes "--version") then Some Asked.Version else None))
 
+-- That an empty result is a failure.
+abbrev pub asks_fail_empty : List ℕ → Bool
+asks_fail_empty word = bytes_eq word (codes "--fail-empty")
+
 -- Whether an option is one that the program has.
 abbrev pub is_known : List ℕ → Bool
-is_known word = is_some (form_asked word)
-    || (is_some (families_asked word) || is_some (question_asked word))
+is_known word = is_some (form_asked word) || (is_some (families_asked word)
+    || (is_some (question_asked word) || asks_fail_empty word))
 
 -- ---- what a command line asks for. Of options about the same, the last one counts.
 
@@ -88,6 +92,7 @@ asked_by options = record {
   form = unwrap_or (last_or None (filter_map form_asked options)) Blocks;
   families = unwrap_or (last_or None (filter_map families_asked options)) Both;
   question = last_or None (filter_map question_asked options);
+  fail_empty = list_any asks_fail_empty options;
 }
 
 -- What the options of a command line ask for.
@@ -134,6 +139,7 @@ module _ (options : Options) (operands : List (List ℕ)) where
   IsRequestWith Help = ⊥
   IsRequestWith Version = ⊥
   IsRequestWith (Combine it) = (it.form ≡ options.form) × (it.families ≡ options.families)
+      × (it.fail_empty ≡ options.fail_empty)
       × IsOperation operands it.operation (map (λ name. name.now) it.files.now)
       × (1 ≤ length it.files.now)
   IsRequestWith (Count families files) = (families ≡ options.families)

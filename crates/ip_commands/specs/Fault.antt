@@ -5,7 +5,7 @@ use Rattle.std.specs.declared.io.ErrorKind.{ErrorKind}
 use Rattle.std.specs.declared.io.ErrorKind.TheVariants.{BrokenPipe}
 use Rattle.ip_sets.specs.List.{bad_line_text}
 use Rattle.ip_commands.specs.declared.commands.Outcome.{Outcome}
-use Rattle.ip_commands.specs.declared.commands.Outcome.TheVariants.{BadLines, Differs, Done, InNone}
+use Rattle.ip_commands.specs.declared.commands.Outcome.TheVariants.{BadLines, Differs, Done, Empty, InNone}
 use Rattle.ip_commands.specs.declared.fault.Fault.{Fault}
 use Rattle.ip_commands.specs.declared.fault.Fault.TheVariants.{BadLine, CommandLine, NoMemory, NotRead, NotWritten}
 use Rattle.ip_commands.specs.declared.fault.Misuse.{Misuse}
@@ -62,6 +62,7 @@ IsQuiet (Err fault) = IsTrue (is_silent fault)
 abbrev pub outcome_status : Outcome → ℕ
 outcome_status Done = 0
 outcome_status InNone = 1
+outcome_status Empty = 1
 outcome_status Differs = 1
 outcome_status BadLines = 2
 

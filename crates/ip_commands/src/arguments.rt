@@ -7,6 +7,7 @@ ghost use Rattle.std.specs.Prelude.{
   [],
   ◌∷◌,
   ◌++◌,
+  ◌||◌,
   IfErr,
   IfOk,
   IsFalse,
@@ -29,6 +30,7 @@ ghost use Rattle.ip_commands.specs.CommandLine.{
   IsRequest,
   IsRequestWith,
   IsWordFault,
+  asks_fail_empty,
   families_asked,
   form_asked,
   is_dashed,
@@ -61,6 +63,8 @@ struct Options {
     form: Form,
     families: Families,
     question: Option<Question>,
+    // Whether an empty result is a failure.
+    fail_empty: bool,
 }
 
 // What is asked about the program itself.
@@ -87,6 +91,7 @@ impl<'a, A: Allocator> Arguments<'a, A> {
                 form: Form::Blocks,
                 families: Families::Both,
                 question: None,
+                fail_empty: false,
             },
             is_ended: false,
         };
@@ -143,6 +148,8 @@ fn with_option<'a>(options: Options, word: &'a str) -> Result<Options, Misuse<'a
         new.families ≡ unwrap_or (families_asked word.now) options.families) }
     ensures question { IfOk result (λ new.
         new.question ≡ option_or (question_asked word.now) options.question) }
+    ensures fail_empty { IfOk result (λ new.
+        new.fail_empty ≡ (options.fail_empty || asks_fail_empty word.now)) }
     ensures known { IfOk result (λ new. IsTrue (is_known word.now)) }
     ensures unknown { IfErr result (λ misuse. IsFalse (is_known word.now)
         × (misuse ≡ Misuse.UnknownOption word.entry)) }
@@ -156,6 +163,7 @@ fn with_option<'a>(options: Options, word: &'a str) -> Result<Options, Misuse<'a
         "-h" => options.question = Some(Question::Help),
         "--help" => options.question = Some(Question::Help),
         "--version" => options.question = Some(Question::Version),
+        "--fail-empty" => options.fail_empty = true,
         _ => return Err(Misuse::UnknownOption(word)),
     }
     Ok(options)
@@ -239,6 +247,7 @@ fn combination<'a>(
         operation,
         form: options.form,
         families: options.families,
+        fail_empty: options.fail_empty,
         files,
     }))
 }

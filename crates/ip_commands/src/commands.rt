@@ -32,6 +32,8 @@ pub enum Outcome {
     Done,
     /// No list has the address.
     InNone,
+    /// The result has no address, and that is a failure.
+    Empty,
     /// The two lists differ.
     Differs,
     /// A list has a bad line.
@@ -45,7 +47,7 @@ impl Outcome {
     {
         match self {
             Outcome::Done => 0,
-            Outcome::InNone | Outcome::Differs => 1,
+            Outcome::InNone | Outcome::Empty | Outcome::Differs => 1,
             Outcome::BadLines => 2,
         }
     }
@@ -63,7 +65,7 @@ usage: ip_lists union FILE..          addresses in at least one list
        ip_lists has ADDRESS FILE..    which lists have the address
        ip_lists diff OLD NEW          blocks to take out of OLD (-) and to put in (+)
        ip_lists check FILE..          the bad lines of the lists
-options: --blocks (the default), --ranges, -4, -6, -h, --help, --version
+options: --blocks (the default), --ranges, -4, -6, --fail-empty, -h, --help, --version
 ";
 
 /// The program's name and version.
@@ -92,7 +94,9 @@ pub fn run<'a, A: Allocator + Copy, I: Inputs, W: Write>(
     match request {
         Request::Help => output.write_all(HELP.as_bytes())?,
         Request::Version => output.write_all(VERSION.as_bytes())?,
-        Request::Combine(combination) => write_combination(alloc, inputs, combination, output)?,
+        Request::Combine(combination) => {
+            return write_combination(alloc, inputs, combination, output);
+        }
         Request::Count { families, files } => write_counts(alloc, inputs, families, files, output)?,
         Request::Has { address, files } => {
             return write_names(alloc, inputs, address, files, output);

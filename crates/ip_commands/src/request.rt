@@ -33,6 +33,8 @@ pub struct Combination<'a> {
     pub form: Form,
     /// Which of them are written.
     pub families: Families,
+    /// Whether it is a failure if there are none.
+    pub fail_empty: bool,
     /// The names of the files.
     pub files: &'a [&'a str],
 }

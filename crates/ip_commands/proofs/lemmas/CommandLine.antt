@@ -9,7 +9,7 @@ use Rattle.std.specs.Bool.{Decides}
 use Rattle.std.specs.List.{filter, filter_map, find, last_or, list_any}
 use Rattle.std.specs.Option.{IsSomeAnd, option_or}
 use Rattle.std.specs.Prelude.{Err, IfErr, IfOk, MatchResult, Ok, Result, ◌==◌, bytes_eq, codes, if◌then◌else◌, slice_index_or, unwrap_or}
-use Rattle.ip_commands.specs.CommandLine.{AreArguments, IsMisuseOfCommand, IsMisuseOfOperands, IsRequestWith, after_mark, asked_by, before_mark, families_asked, first_unknown, form_asked, is_dashed, is_known, is_mark, operands_of, options_of, question_asked, words_needed}
+use Rattle.ip_commands.specs.CommandLine.{AreArguments, IsMisuseOfCommand, IsMisuseOfOperands, IsRequestWith, after_mark, asked_by, asks_fail_empty, before_mark, families_asked, first_unknown, form_asked, is_dashed, is_known, is_mark, operands_of, options_of, question_asked, words_needed}
 use Rattle.ip_commands.specs.declared.arguments.Arguments.{Arguments}
 use Rattle.ip_commands.specs.declared.arguments.Options.{Options}
 use Rattle.ip_commands.specs.declared.fault.Misuse.{Misuse}
@@ -176,14 +176,14 @@ module _ (word : List ℕ) where
       → operands_of (word ∷ []) ≡ []
   dashed-operand other dashed = rw (other, dashed) refl
 
--- Whether some word is `--`, with one more word.
-pub one-more : (words : List (List ℕ)) (word : List ℕ)
-    → list_any is_mark (words ++ word ∷ []) ≡ (list_any is_mark words || is_mark word)
-one-more [] word =
-    elim (is_mark word) as (λ mark. (mark || false) ≡ mark) [ true ↦ refl | false ↦ refl ]
-one-more (first ∷ words) word =
-    ap (λ rest. is_mark first || rest) (one-more words word)
-    ∙ or-assoc (is_mark first) (list_any is_mark words) (is_mark word)
+-- Whether some word passes a test, with one more word.
+pub one-more : (test : List ℕ → Bool) (words : List (List ℕ)) (word : List ℕ)
+    → list_any test (words ++ word ∷ []) ≡ (list_any test words || test word)
+one-more test [] word =
+    elim (test word) as (λ passes. (passes || false) ≡ passes) [ true ↦ refl | false ↦ refl ]
+one-more test (first ∷ words) word =
+    ap (λ rest. test first || rest) (one-more test words word)
+    ∙ or-assoc (test first) (list_any test words) (test word)
   where
     or-assoc : (a b c : Bool) → (a || (b || c)) ≡ ((a || b) || c)
     or-assoc true b c = refl
@@ -224,15 +224,18 @@ option_added word options = record {
   form = unwrap_or (form_asked word) options.form;
   families = unwrap_or (families_asked word) options.families;
   question = option_or (question_asked word) options.question;
+  fail_empty = options.fail_empty || asks_fail_empty word;
 }
 
 -- Options that are the same in each part are the same.
 pub options-equal : (some other : Options) → some.form ≡ other.form
-    → some.families ≡ other.families → some.question ≡ other.question → some ≡ other
-options-equal some other form families question =
+    → some.families ≡ other.families → some.question ≡ other.question
+    → some.fail_empty ≡ other.fail_empty → some ≡ other
+options-equal some other form families question fail_empty =
     ap (λ each. record some { form = each }) form
     ∙ ap (λ each. record some { form = other.form; families = each }) families
-    ∙ ap (λ each. record other { question = each }) question
+    ∙ ap (λ each. record other { question = each; fail_empty = some.fail_empty }) question
+    ∙ ap (λ each. record other { fail_empty = each }) fail_empty
 
 -- One more option adds what it asks for.
 pub asked-more : (options : List (List ℕ)) (word : List ℕ)
@@ -244,6 +247,7 @@ asked-more options word =
     (ap (λ each. unwrap_or each Both) (last-more families_asked None options word)
     ∙ either-default (families_asked word) (last_or None (filter_map families_asked options)) Both)
     (last-more question_asked None options word)
+    (one-more asks_fail_empty options word)
 
 -- ---- slices
 
@@ -419,9 +423,9 @@ module _ (words : List (List ℕ)) (word : List ℕ) where
   more-operand-ended : (list_any is_mark words ≡ true) ⊎ (is_dashed word ≡ false)
       → list_any is_mark all_words ≡ list_any is_mark words
   more-operand-ended (inl some) =
-      one-more words word ∙ or-left (list_any is_mark words) (is_mark word) some ∙ sym some
+      one-more is_mark words word ∙ or-left (list_any is_mark words) (is_mark word) some ∙ sym some
   more-operand-ended (inr plain) =
-      one-more words word ∙ or-none (list_any is_mark words) (is_mark word) (no-mark word plain)
+      one-more is_mark words word ∙ or-none (list_any is_mark words) (is_mark word) (no-mark word plain)
 
   module _ {A : Type 0} (old new : Arguments A) (are : AreArguments words old) where
     -- The arguments of one more operand.
@@ -459,7 +463,7 @@ module _ (words : List (List ℕ)) (word : List ℕ) where
           operands = items ∙ are.operands ∙ sym (append-nil (operands_of words))
               ∙ ap (λ each. operands_of words ++ each) (sym (mark-operand word mark))
               ∙ sym (operands-unmarked words (word ∷ []) none);
-          ended = ended ∙ sym (one-more words word
+          ended = ended ∙ sym (one-more is_mark words word
               ∙ or-right (list_any is_mark words) (is_mark word) mark);
         }
 
@@ -470,8 +474,9 @@ module _ (words : List (List ℕ)) (word : List ℕ) where
         → new.options.form ≡ unwrap_or (form_asked word) old.options.form
         → new.options.families ≡ unwrap_or (families_asked word) old.options.families
         → new.options.question ≡ option_or (question_asked word) old.options.question
+        → new.options.fail_empty ≡ (old.options.fail_empty || asks_fail_empty word)
         → new.is_ended ≡ old.is_ended → AreArguments all_words new
-    more-option unended other dashed known items form families question ended =
+    more-option unended other dashed known items form families question fail_empty ended =
         let none : list_any is_mark words ≡ false = sym are.ended ∙ unended in
         let more : options_of all_words ≡ options_of words ++ word ∷ [] =
         options-unmarked words (word ∷ []) none
@@ -483,13 +488,14 @@ module _ (words : List (List ℕ)) (word : List ℕ) where
               ∙ ap (λ each. option_or each (cond (not (is_known word)) (Some word) None)) are.known
               ∙ known-passes word (is_known word) known;
           options = options-equal new.options (option_added word old.options) form families question
+              fail_empty
               ∙ ap (option_added word) are.options
               ∙ sym (ap asked_by more ∙ asked-more (options_of words) word);
           operands = items ∙ are.operands ∙ sym (append-nil (operands_of words))
               ∙ ap (λ each. operands_of words ++ each) (sym (dashed-operand word other dashed))
               ∙ sym (operands-unmarked words (word ∷ []) none);
           ended = ended ∙ are.ended
-              ∙ sym (one-more words word ∙ or-none (list_any is_mark words) (is_mark word) other);
+              ∙ sym (one-more is_mark words word ∙ or-none (list_any is_mark words) (is_mark word) other);
         }
 
     -- An option that is unknown is the first one, whatever follows it.

@@ -50,7 +50,7 @@ module _ (bytes : List ℕ → Option (List ℕ)) (words : List (List ℕ)) (old
     answered-first Help outcome error answer = All-nil (IsGoodFile bytes)
     answered-first Version outcome error answer = All-nil (IsGoodFile bytes)
     answered-first (Combine it) outcome error answer =
-        all-good bytes (files_of (Combine it)) answer.1.1.lists answer.1.1.are
+        all-good bytes (files_of (Combine it)) answer.1.lists answer.1.are
     answered-first (Count families files) outcome error answer =
         all-good bytes (files_of (Count families files)) answer.1.1.lists answer.1.1.are
     answered-first (Has address files) outcome error answer =
@@ -76,10 +76,8 @@ answers-kept bytes Help outcome old mid new answer keeps =
     (answer.0, Appends-kept old mid new HELP.now answer.1 keeps)
 answers-kept bytes Version outcome old mid new answer keeps =
     (answer.0, Appends-kept old mid new VERSION.now answer.1 keeps)
-answers-kept bytes (Combine it) outcome old mid new answer keeps = (
-  answer.0,
-  (answer.1.0, answer.1.1, Appends-kept old mid new answer.1.0 answer.1.2 keeps),
-)
+answers-kept bytes (Combine it) outcome old mid new answer keeps =
+    (answer.0, answer.1, answer.2, Appends-kept old mid new answer.0 answer.3 keeps)
 answers-kept bytes (Count families files) outcome old mid new answer keeps = (
   answer.0,
   (answer.1.0, answer.1.1, Appends-kept old mid new answer.1.0 answer.1.2 keeps),

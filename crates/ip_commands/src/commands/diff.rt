@@ -75,18 +75,20 @@ fn write_both<'a, W: Write, A: Allocator>(
         form: diff.form,
         families: diff.families,
     };
-    write_difference(output, new, old, put_in)
+    write_difference(output, new, old, put_in)?;
+    Ok(())
 }
 
-// Writes the addresses that one list has and another lacks. It does not allocate.
+// Writes the addresses that one list has and another lacks. Returns whether there is a line. It does
+// not allocate.
 fn write_difference<'a, W: Write, A: Allocator>(
     output: &mut W,
     one: &AddressList<A>,
     other: &AddressList<A>,
     style: Style<'a>,
-) -> io::Result<()>
+) -> io::Result<bool>
     requires { length style.sign.now ≤ 1 }
-    ensures { OnOk result (WritesSelected style.entry.sign.now style.entry.form
+    ensures { IfOk result (λ some. WritesSelected some style.entry.sign.now style.entry.form
         style.entry.families
         (difference (members one.now.v4) (members other.now.v4))
         (difference (members one.now.v6) (members other.now.v6))

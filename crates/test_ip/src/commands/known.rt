@@ -77,6 +77,7 @@ fn is_difference(alloc: Global, text: &[u8]) -> bool {
         operation: Operation::Except,
         form: Form::Ranges,
         families: Families::Both,
+        fail_empty: false,
         files: &["a", "b"],
     };
     match selects_exactly(alloc, &inputs, combination) {

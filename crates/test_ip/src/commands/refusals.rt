@@ -11,10 +11,11 @@ use test_support::Counting;
 type Heap = Counting<Global>;
 
 /// Commands that allocate.
-static COMMANDS: [(&[&str], u8); 10] = [
+static COMMANDS: [(&[&str], u8); 11] = [
     (&["union", "a", "b"], 0),
     (&["common", "a", "b", "--ranges"], 0),
     (&["except", "a", "b"], 0),
+    (&["except", "--fail-empty", "a", "b"], 0),
     (&["odd", "a", "b", "all"], 0),
     (&["at-least", "2", "a", "b"], 0),
     (&["complement", "a", "b"], 0),

@@ -7,5 +7,5 @@ pub returns : goal.returns
 returns g c =
     lays-sent (g.I.Draw.may_give c.args.ranges)
     (IsSignedSet c.args.sign.now g.T.AddressText.text g.T.Integer.rank g.T.Address.width g.T.Integer.value_count
-    c.args.form) c.send.result _ _ _ _ _
-    c.new-page.ensures c.in_ok-lay_stream.ensures c.send.ensures.written
+    c.args.form) _ _ _ _ _ _ c.new-page.ensures c.in_ok-lay_stream.ensures c.is_empty.ensures
+    c.in_ok-send.ensures.written

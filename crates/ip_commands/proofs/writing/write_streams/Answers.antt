@@ -2,12 +2,11 @@ use Rattle.ip_commands.proofs.lemmas.Selection.{both-selected, v4-selected, v6-s
 use Rattle.ip_commands.proofs.writing.write_streams.Goals as goal
 
 -- Both families were written.
-pub returns-in_ok-write_ranges-in-Both : goal.returns-in_ok-write_ranges-in-Both
-returns-in_ok-write_ranges-in-Both g c = λ these those first last.
+pub returns-in_ok-has_v6-in-Both : goal.returns-in_ok-has_v6-in-Both
+returns-in_ok-has_v6-in-Both g c = λ these those first last.
     both-selected c.args.style.sign.now c.args.style.form c.args.style.families these those
     (g.F.Draw.may_give c.args.v4) (g.S.Draw.may_give c.args.v6) first last
-    c.write_ranges-in-Both.result _ _ _ c.in-Both.is c.in_ok-write_ranges-in-Both.ensures
-    c.write_ranges-in-Both.ensures
+    _ _ _ _ _ c.in-Both.is c.in_ok-has_v4.ensures c.in_ok-has_v6.ensures
 
 -- Only IPv4 was written.
 pub returns-in-V4 : goal.returns-in-V4
