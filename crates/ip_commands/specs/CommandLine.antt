@@ -8,6 +8,7 @@ use Rattle.std.specs.Net.Grammar.{IsIpText}
 use Rattle.std.specs.declared.net.ip_addr.IpAddr.{IpAddr}
 use Rattle.ip_sets.specs.declared.operations.Operation.{Operation}
 use Rattle.ip_sets.specs.declared.operations.Operation.TheVariants.{AtLeast, Common, Complement, Except, Odd, Union}
+use Rattle.ip_commands.specs.Files.{file_names}
 use Rattle.ip_commands.specs.Request.{files_of}
 use Rattle.ip_commands.specs.declared.arguments.Arguments.{Arguments}
 use Rattle.ip_commands.specs.declared.arguments.Options.{Options}
@@ -75,10 +76,14 @@ question_asked word = if bytes_eq word (codes "-h") then Some Asked.Help
 abbrev pub asks_fail_empty : List ℕ → Bool
 asks_fail_empty word = bytes_eq word (codes "--fail-empty")
 
+-- That bad lines are passed over.
+abbrev pub asks_skip_bad : List ℕ → Bool
+asks_skip_bad word = bytes_eq word (codes "--skip-bad")
+
 -- Whether an option is one that the program has.
 abbrev pub is_known : List ℕ → Bool
 is_known word = is_some (form_asked word) || (is_some (families_asked word)
-    || (is_some (question_asked word) || asks_fail_empty word))
+    || (is_some (question_asked word) || (asks_fail_empty word || asks_skip_bad word)))
 
 -- ---- what a command line asks for. Of options about the same, the last one counts.
 
@@ -93,6 +98,7 @@ asked_by options = record {
   families = unwrap_or (last_or None (filter_map families_asked options)) Both;
   question = last_or None (filter_map question_asked options);
   fail_empty = list_any asks_fail_empty options;
+  skip_bad = list_any asks_skip_bad options;
 }
 
 -- What the options of a command line ask for.
@@ -139,15 +145,17 @@ module _ (options : Options) (operands : List (List ℕ)) where
   IsRequestWith Help = ⊥
   IsRequestWith Version = ⊥
   IsRequestWith (Combine it) = (it.form ≡ options.form) × (it.families ≡ options.families)
-      × (it.fail_empty ≡ options.fail_empty)
-      × IsOperation operands it.operation (map (λ name. name.now) it.files.now)
-      × (1 ≤ length it.files.now)
-  IsRequestWith (Count families files) = (families ≡ options.families)
-      × (operands ≡ codes "count" ∷ map (λ name. name.now) files.now) × (1 ≤ length files.now)
-  IsRequestWith (Has address files) = (word : List ℕ)
-      × (operands ≡ codes "has" ∷ word ∷ map (λ name. name.now) files.now)
-      × IsIpText word address × (1 ≤ length files.now)
+      × (it.fail_empty ≡ options.fail_empty) × (it.sources.skip_bad ≡ options.skip_bad)
+      × IsOperation operands it.operation (file_names it.sources)
+      × (1 ≤ length it.sources.files.now)
+  IsRequestWith (Count families sources) = (families ≡ options.families)
+      × (sources.skip_bad ≡ options.skip_bad) × (operands ≡ codes "count" ∷ file_names sources)
+      × (1 ≤ length sources.files.now)
+  IsRequestWith (Has address sources) = (word : List ℕ)
+      × (operands ≡ codes "has" ∷ word ∷ file_names sources) × IsIpText word address
+      × (1 ≤ length sources.files.now) × (sources.skip_bad ≡ options.skip_bad)
   IsRequestWith (Compare diff) = (diff.form ≡ options.form) × (diff.families ≡ options.families)
+      × (diff.skip_bad ≡ options.skip_bad)
       × (operands ≡ codes "diff" ∷ diff.old.now ∷ diff.new.now ∷ [])
   IsRequestWith (Check files) =
       (operands ≡ codes "check" ∷ map (λ name. name.now) files.now) × (1 ≤ length files.now)

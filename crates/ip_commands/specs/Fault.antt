@@ -1,5 +1,5 @@
 -- Faults as lines and as exit statuses.
-use Rattle.std.specs.Prelude.{ℕ, ◌==◌, Bool, false, IsTrue, List, ◌++◌, Option, Some, None, Result, Ok, Err, codes}
+use Rattle.std.specs.Prelude.{ℕ, ◌==◌, Bool, false, IsTrue, List, [], ◌∷◌, ◌++◌, Option, Some, None, Result, Ok, Err, codes}
 use Rattle.std.specs.IoError.{error_kind}
 use Rattle.std.specs.declared.io.ErrorKind.{ErrorKind}
 use Rattle.std.specs.declared.io.ErrorKind.TheVariants.{BrokenPipe}
@@ -65,6 +65,11 @@ outcome_status InNone = 1
 outcome_status Empty = 1
 outcome_status Differs = 1
 outcome_status BadLines = 2
+
+-- How a run ends that had this outcome, and these reports of bad lines.
+abbrev pub outcome_past : List ℕ → Outcome → Outcome
+outcome_past [] outcome = outcome
+outcome_past (byte ∷ told) outcome = BadLines
 
 -- The exit status of the program.
 abbrev pub status_after : Result Outcome Fault → ℕ

@@ -31,6 +31,7 @@ ghost use Rattle.ip_commands.specs.CommandLine.{
   IsRequestWith,
   IsWordFault,
   asks_fail_empty,
+  asks_skip_bad,
   families_asked,
   form_asked,
   is_dashed,
@@ -41,7 +42,7 @@ ghost use Rattle.ip_commands.specs.CommandLine.{
 ghost use Rattle.ip_commands.specs.Request.{files_of};
 
 use crate::fault::{Fault, Misuse};
-use crate::request::{Combination, Diff, Families, Form, Request};
+use crate::request::{Combination, Diff, Families, Form, Request, Sources};
 use ip_sets::Operation;
 use std::alloc::Allocator;
 use std::convert::AsStr;
@@ -65,6 +66,8 @@ struct Options {
     question: Option<Question>,
     // Whether an empty result is a failure.
     fail_empty: bool,
+    // Whether bad lines are passed over.
+    skip_bad: bool,
 }
 
 // What is asked about the program itself.
@@ -92,6 +95,7 @@ impl<'a, A: Allocator> Arguments<'a, A> {
                 families: Families::Both,
                 question: None,
                 fail_empty: false,
+                skip_bad: false,
             },
             is_ended: false,
         };
@@ -150,6 +154,8 @@ fn with_option<'a>(options: Options, word: &'a str) -> Result<Options, Misuse<'a
         new.question ≡ option_or (question_asked word.now) options.question) }
     ensures fail_empty { IfOk result (λ new.
         new.fail_empty ≡ (options.fail_empty || asks_fail_empty word.now)) }
+    ensures skip_bad { IfOk result (λ new.
+        new.skip_bad ≡ (options.skip_bad || asks_skip_bad word.now)) }
     ensures known { IfOk result (λ new. IsTrue (is_known word.now)) }
     ensures unknown { IfErr result (λ misuse. IsFalse (is_known word.now)
         × (misuse ≡ Misuse.UnknownOption word.entry)) }
@@ -164,6 +170,7 @@ fn with_option<'a>(options: Options, word: &'a str) -> Result<Options, Misuse<'a
         "--help" => options.question = Some(Question::Help),
         "--version" => options.question = Some(Question::Version),
         "--fail-empty" => options.fail_empty = true,
+        "--skip-bad" => options.skip_bad = true,
         _ => return Err(Misuse::UnknownOption(word)),
     }
     Ok(options)
@@ -189,9 +196,9 @@ fn rereads_input(request: Request<'_>) -> bool
     match request {
         Request::Help => false,
         Request::Version => false,
-        Request::Combine(combination) => repeats_input(combination.files),
-        Request::Count { files, .. } => repeats_input(files),
-        Request::Has { files, .. } => repeats_input(files),
+        Request::Combine(combination) => repeats_input(combination.sources.files),
+        Request::Count { sources, .. } => repeats_input(sources.files),
+        Request::Has { sources, .. } => repeats_input(sources.files),
         Request::Diff(diff) => repeats_input(&[diff.old, diff.new]),
         Request::Check { files } => repeats_input(files),
     }
@@ -248,8 +255,19 @@ fn combination<'a>(
         form: options.form,
         families: options.families,
         fail_empty: options.fail_empty,
-        files,
+        sources: sources(options, files),
     }))
+}
+
+// Returns the files that lists are read from.
+fn sources<'a>(options: Options, files: &'a [&'a str]) -> Sources<'a>
+    ensures files { result.files ≡ files.entry }
+    ensures skip_bad { result.skip_bad ≡ options.skip_bad }
+{
+    Sources {
+        files,
+        skip_bad: options.skip_bad,
+    }
 }
 
 // Returns what `except` and the words after it ask for.
@@ -296,7 +314,7 @@ fn count<'a>(options: Options, files: &'a [&'a str]) -> Result<Request<'a>, Misu
     }
     Ok(Request::Count {
         families: options.families,
-        files,
+        sources: sources(options, files),
     })
 }
 
@@ -314,7 +332,10 @@ fn has<'a>(options: Options, words: &'a [&'a str]) -> Result<Request<'a>, Misuse
         return Err(Misuse::MissingFile);
     }
     match text.parse::<IpAddr>() {
-        Ok(address) => Ok(Request::Has { address, files }),
+        Ok(address) => Ok(Request::Has {
+            address,
+            sources: sources(options, files),
+        }),
         Err(_) => Err(Misuse::NoAddress(*text)),
     }
 }
@@ -350,5 +371,6 @@ fn diff<'a>(options: Options, words: &'a [&'a str]) -> Result<Request<'a>, Misus
         families: options.families,
         old: *old,
         new: *new,
+        skip_bad: options.skip_bad,
     }))
 }

@@ -7,7 +7,7 @@ use Rattle.ip_sets.specs.List.{has_bytes}
 use Rattle.ip_sets.specs.Operation.{selected_by}
 use Rattle.ip_sets.specs.declared.list.AddressList.{AddressList}
 use Rattle.ip_commands.specs.Answer.{IsCombined, combined_outcome, v4_of, v6_of}
-use Rattle.ip_commands.specs.Files.{AreFilesOf, selected}
+use Rattle.ip_commands.specs.Files.{AreFilesOf, file_names, selected}
 use Rattle.ip_commands.specs.Selection.{WritesSelected}
 use Rattle.ip_commands.specs.declared.commands.Outcome.{Outcome}
 use Rattle.ip_commands.specs.declared.request.Combination.{Combination}
@@ -28,7 +28,8 @@ same-v6 (list ∷ lists) = ap (λ others. members list.v6 ∷ others) (same-v6 l
 pub combined : {A : Type 0} (bytes : List ℕ → Option (List ℕ)) (combination : Combination)
     (lists given : List (AddressList A)) (old new : Option (List ℕ)) (some : Bool)
     (outcome : Outcome) → given ≡ lists
-    → AreFilesOf bytes (map (λ name. name.now) combination.files.now) (map selected lists)
+    → AreFilesOf bytes combination.sources.skip_bad (file_names combination.sources)
+    (map selected lists)
     → WritesSelected some [] combination.form combination.families
     (selected_by combination.operation (map members (map (λ list. list.v4) given)))
     (selected_by combination.operation (map members (map (λ list. list.v6) given))) old new

@@ -9,7 +9,7 @@ use Rattle.std.specs.Bool.{Decides}
 use Rattle.std.specs.List.{filter, filter_map, find, last_or, list_any}
 use Rattle.std.specs.Option.{IsSomeAnd, option_or}
 use Rattle.std.specs.Prelude.{Err, IfErr, IfOk, MatchResult, Ok, Result, ◌==◌, bytes_eq, codes, if◌then◌else◌, slice_index_or, unwrap_or}
-use Rattle.ip_commands.specs.CommandLine.{AreArguments, IsMisuseOfCommand, IsMisuseOfOperands, IsRequestWith, after_mark, asked_by, asks_fail_empty, before_mark, families_asked, first_unknown, form_asked, is_dashed, is_known, is_mark, operands_of, options_of, question_asked, words_needed}
+use Rattle.ip_commands.specs.CommandLine.{AreArguments, IsMisuseOfCommand, IsMisuseOfOperands, IsRequestWith, after_mark, asked_by, asks_fail_empty, asks_skip_bad, before_mark, families_asked, first_unknown, form_asked, is_dashed, is_known, is_mark, operands_of, options_of, question_asked, words_needed}
 use Rattle.ip_commands.specs.declared.arguments.Arguments.{Arguments}
 use Rattle.ip_commands.specs.declared.arguments.Options.{Options}
 use Rattle.ip_commands.specs.declared.fault.Misuse.{Misuse}
@@ -225,17 +225,20 @@ option_added word options = record {
   families = unwrap_or (families_asked word) options.families;
   question = option_or (question_asked word) options.question;
   fail_empty = options.fail_empty || asks_fail_empty word;
+  skip_bad = options.skip_bad || asks_skip_bad word;
 }
 
 -- Options that are the same in each part are the same.
 pub options-equal : (some other : Options) → some.form ≡ other.form
     → some.families ≡ other.families → some.question ≡ other.question
-    → some.fail_empty ≡ other.fail_empty → some ≡ other
-options-equal some other form families question fail_empty =
+    → some.fail_empty ≡ other.fail_empty → some.skip_bad ≡ other.skip_bad → some ≡ other
+options-equal some other form families question fail_empty skip_bad =
     ap (λ each. record some { form = each }) form
     ∙ ap (λ each. record some { form = other.form; families = each }) families
-    ∙ ap (λ each. record other { question = each; fail_empty = some.fail_empty }) question
-    ∙ ap (λ each. record other { fail_empty = each }) fail_empty
+    ∙ ap (λ each. record some { form = other.form; families = other.families; question = each })
+    question
+    ∙ ap (λ each. record other { fail_empty = each; skip_bad = some.skip_bad }) fail_empty
+    ∙ ap (λ each. record other { skip_bad = each }) skip_bad
 
 -- One more option adds what it asks for.
 pub asked-more : (options : List (List ℕ)) (word : List ℕ)
@@ -247,7 +250,7 @@ asked-more options word =
     (ap (λ each. unwrap_or each Both) (last-more families_asked None options word)
     ∙ either-default (families_asked word) (last_or None (filter_map families_asked options)) Both)
     (last-more question_asked None options word)
-    (one-more asks_fail_empty options word)
+    (one-more asks_fail_empty options word) (one-more asks_skip_bad options word)
 
 -- ---- slices
 
@@ -475,8 +478,9 @@ module _ (words : List (List ℕ)) (word : List ℕ) where
         → new.options.families ≡ unwrap_or (families_asked word) old.options.families
         → new.options.question ≡ option_or (question_asked word) old.options.question
         → new.options.fail_empty ≡ (old.options.fail_empty || asks_fail_empty word)
+        → new.options.skip_bad ≡ (old.options.skip_bad || asks_skip_bad word)
         → new.is_ended ≡ old.is_ended → AreArguments all_words new
-    more-option unended other dashed known items form families question fail_empty ended =
+    more-option unended other dashed known items form families question fail_empty skip_bad ended =
         let none : list_any is_mark words ≡ false = sym are.ended ∙ unended in
         let more : options_of all_words ≡ options_of words ++ word ∷ [] =
         options-unmarked words (word ∷ []) none
@@ -488,7 +492,7 @@ module _ (words : List (List ℕ)) (word : List ℕ) where
               ∙ ap (λ each. option_or each (cond (not (is_known word)) (Some word) None)) are.known
               ∙ known-passes word (is_known word) known;
           options = options-equal new.options (option_added word old.options) form families question
-              fail_empty
+              fail_empty skip_bad
               ∙ ap (option_added word) are.options
               ∙ sym (ap asked_by more ∙ asked-more (options_of words) word);
           operands = items ∙ are.operands ∙ sym (append-nil (operands_of words))

@@ -1,11 +1,10 @@
 -- Reports of bad lines, one file after the other.
-use Rattle.std.proofs.Common.{◌≡◌, ◌∙◌, ℕ, ◌+◌, ◌<◌, suc, Bor, List, [], ◌∷◌, ◌++◌, length, map, take, drop, get_or, Option, sym, ap, subst}
+use Rattle.std.proofs.Common.{◌≡◌, ◌∙◌, ℕ, ◌+◌, ◌<◌, suc, Bool, true, false, Bor, List, [], ◌∷◌, ◌++◌, length, map, take, drop, get_or, Option, refl, sym, ap, append_assoc, subst, true≢false}
 use Rattle.std.proofs.Common.{drop-cons}
-use Rattle.std.proofs.lemmas.List.{flat_map_more, map-append, map_push, take-append-drop, take_more}
+use Rattle.std.proofs.lemmas.List.{append-nil, flat_map_more, map-append, map_push, take-append-drop, take_more}
 use Rattle.std.proofs.lemmas.Slice.Zip.{all_zipped_more}
 use Rattle.std.specs.List.{AllZip}
-use Rattle.ip_commands.specs.Answer.{AreReported, IsReported}
-use Rattle.ip_commands.specs.Files.{IsCheckFault, IsNotRead}
+use Rattle.ip_commands.specs.Files.{AddsReport, AddsReports, AreReported, IsCheckFault, IsFaultOf, IsNotRead, IsReported}
 use Rattle.ip_commands.specs.declared.fault.Fault.{Fault}
 use Rattle.ip_commands.specs.declared.fault.Fault.TheVariants.{BadLine, CommandLine, NoMemory, NotRead, NotWritten}
 use Rattle.ip_commands.proofs.lemmas.Files.{name_of}
@@ -14,6 +13,36 @@ use Rattle.ip_commands.proofs.lemmas.Files.{name_of}
 pub reports-none : (bytes : List ℕ → Option (List ℕ)) (told : List ℕ) → told ≡ []
     → AreReported bytes [] told
 reports-none bytes told none = record { texts = []; each = tt; whole = none }
+
+-- No report was added for no file.
+pub adds-none : (bytes : List ℕ → Option (List ℕ)) (skip_bad : Bool) (old : List ℕ)
+    → AddsReports bytes skip_bad [] old old
+adds-none bytes false old = refl
+adds-none bytes true old = ([], reports-none bytes [] refl, sym (append-nil old))
+
+-- The reports of two files were added, one after the other.
+pub adds-both : (bytes : List ℕ → Option (List ℕ)) (skip_bad : Bool) (file other old mid new : List ℕ)
+    → AddsReport bytes skip_bad file old mid → AddsReport bytes skip_bad other mid new
+    → AddsReports bytes skip_bad (file ∷ other ∷ []) old new
+adds-both bytes false file other old mid new first last = last ∙ first
+adds-both bytes true file other old mid new first last = (
+  first.0 ++ last.0,
+  record {
+    texts = first.0 ∷ last.0 ∷ [];
+    each = (first.1, (last.1, tt));
+    whole = ap (λ each. first.0 ++ each) (sym (append-nil last.0));
+  },
+  last.2 ∙ ap (λ each. each ++ last.0) first.2 ∙ append_assoc old first.0 last.0,
+)
+
+-- If bad lines are passed over, a file that was not read as a list could not be read.
+pub past-fault : (bytes : List ℕ → Option (List ℕ)) (name : List ℕ) (fault : Fault)
+    → IsFaultOf bytes true name fault → IsNotRead name fault
+past-fault bytes name (BadLine file bad) is = absurd (true≢false is.0)
+past-fault bytes name (NotRead file error) is = is
+past-fault bytes name (NotWritten error) is = is
+past-fault bytes name NoMemory is = is
+past-fault bytes name (CommandLine misuse) is = is
 
 module _ (bytes : List ℕ → Option (List ℕ)) (names : List (Bor (List ℕ))) (at : ℕ)
     (default : Bor (List ℕ)) (within : at < length names) where
@@ -34,6 +63,18 @@ module _ (bytes : List ℕ → Option (List ℕ)) (names : List (Bor (List ℕ))
         whole = grown ∙ ap (λ before. before ++ text) has.whole
             ∙ flat_map_more (λ (part : List ℕ). part) [] has.texts text;
       }
+
+  -- The reports of one more file were added, if bad lines are passed over.
+  pub adds-more : (skip_bad : Bool) (old mid new : List ℕ)
+      → AddsReports bytes skip_bad (map name_of (take at names)) old mid
+      → AddsReport bytes skip_bad (name_of (get_or names at default)) mid new
+      → AddsReports bytes skip_bad (map name_of (take (at + 1) names)) old new
+  adds-more false old mid new before more = more ∙ before
+  adds-more true old mid new before more = (
+    before.0 ++ more.0,
+    reports-more before.0 (before.0 ++ more.0) more.0 before.1 more.1 refl,
+    more.2 ∙ ap (λ each. each ++ more.0) before.2 ∙ append_assoc old before.0 more.0,
+  )
 
   -- A fault of the file that was read next ends the check.
   pub check-fault : (fault : Fault) → IsNotRead (name_of (get_or names at default)) fault

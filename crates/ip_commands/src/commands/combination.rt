@@ -1,6 +1,6 @@
 //! Operations on the lists of files.
 
-ghost use Rattle.std.specs.Prelude.{◌≡◌, ℕ, ◌^◌, [], IfErr, IfOk, List, map};
+ghost use Rattle.std.specs.Prelude.{◌≡◌, ℕ, ◌^◌, [], IfErr, IfOk, IsFalse, List, OnOk, map};
 ghost use Rattle.std.specs.Io.KnownBytes.{Appends};
 ghost use Rattle.range_set_blaze.specs.Runs.{AreRuns, members};
 ghost use Rattle.range_set_blaze.specs.Selection.{Selection};
@@ -8,7 +8,13 @@ ghost use Rattle.rsb_streams.specs.Stream.{◌⊆◌};
 ghost use Rattle.ip_sets.specs.List.{has_bytes};
 ghost use Rattle.ip_sets.specs.Operation.{selected_by};
 ghost use Rattle.ip_commands.specs.Answer.{IsCombined, combined_outcome};
-ghost use Rattle.ip_commands.specs.Files.{IsAfterReading, IsFirstFault, KeepsUnlessWriting};
+ghost use Rattle.ip_commands.specs.Files.{
+  AddsReports,
+  IsAfterReading,
+  IsFirstFault,
+  KeepsUnlessWriting,
+  file_names,
+};
 ghost use Rattle.ip_commands.specs.Selection.{WritesSelected};
 
 use crate::commands::Outcome;
@@ -23,23 +29,30 @@ use range_set_blaze::{Draw, DrawDisjoint};
 use std::alloc::{AllocError, Allocator};
 use std::io::Write;
 
-/// Writes what an operation selects from the lists of files. Returns whether that is a failure.
+/// Writes what an operation selects from the lists of files. Returns whether that is a failure. If bad
+/// lines are passed over, it adds a line for each to `told`.
 pub(crate) fn write_combination<'a, A: Allocator + Copy, I: Inputs, W: Write>(
     alloc: A,
     inputs: &I,
     combination: Combination<'a>,
     output: &mut W,
+    told: &mut Vec<u8, A>,
 ) -> Result<Outcome, Fault<'a>>
     ensures answer { IfOk result (λ outcome. (text : List ℕ)
         × IsCombined (I.bytes inputs.now) combination.entry text
         × (outcome ≡ combined_outcome combination.entry.fail_empty text)
         × Appends (W.contents output.old) (W.contents output.new) text) }
+    ensures told { OnOk result (AddsReports (I.bytes inputs.now)
+        combination.entry.sources.skip_bad (file_names combination.entry.sources)
+        told.old.items told.new.items) }
     ensures first { IfErr result (IsFirstFault (I.bytes inputs.now)
-        (map (λ name. name.now) combination.entry.files.now)) }
+        combination.entry.sources.skip_bad (file_names combination.entry.sources)) }
+    ensures quiet { IsFalse combination.entry.sources.skip_bad
+        → told.new.items ≡ told.old.items }
     ensures keeps { IfErr result (λ fault.
         KeepsUnlessWriting fault (W.contents output.old) (W.contents output.new)) }
 {
-    let lists = read_lists(alloc, inputs, combination.files)?;
+    let lists = read_lists(alloc, inputs, combination.sources, told)?;
     let some = write_operation(alloc, output, &lists, combination)?;
     Ok(outcome(combination.fail_empty, some))
 }

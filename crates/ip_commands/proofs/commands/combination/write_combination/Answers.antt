@@ -1,7 +1,7 @@
 use Rattle.std.proofs.Common.{map}
-use Rattle.ip_commands.specs.Files.{IsFirstFault, selected}
+use Rattle.ip_commands.specs.Files.{IsFirstFault, file_names, selected}
 use Rattle.ip_commands.proofs.lemmas.Answer.{combined}
-use Rattle.ip_commands.proofs.lemmas.Files.{after-reading, all-good, name_of, passed-on}
+use Rattle.ip_commands.proofs.lemmas.Files.{after-reading, all-good, passed-on}
 use Rattle.ip_commands.proofs.commands.combination.write_combination.Goals as goal
 
 -- The text of what the operation selects was written.
@@ -15,10 +15,11 @@ returns-clause-answer g c =
 pub returns-in_err-some-clause-first : goal.returns-in_err-some-clause-first
 returns-in_err-some-clause-first g c =
     let bytes = g.I.Inputs.bytes c.args.inputs.now in
-    let names = map name_of c.args.combination.files.now in
+    let skip_bad = c.args.combination.sources.skip_bad in
+    let names = file_names c.args.combination.sources in
     let fault = c.in_err-some.field-0.0 in
-    passed-on c.from_residual-in_err-some.result fault (IsFirstFault bytes names)
+    passed-on c.from_residual-in_err-some.result fault (IsFirstFault bytes skip_bad names)
     c.from_residual-in_err-some.ensures.1
-    (after-reading bytes names fault
-    (all-good bytes names (map selected c.in_ok-lists.lists.items) c.in_ok-lists.ensures.lists)
+    (after-reading bytes skip_bad names fault
+    (all-good bytes skip_bad names (map selected c.in_ok-lists.lists.items) c.in_ok-lists.ensures.lists)
     c.in_err-some.ensures.fault)
