@@ -8,8 +8,8 @@ use Rattle.std.proofs.lemmas.Slice.Eq.{bytes_eq-Decides}
 use Rattle.std.specs.Bool.{Decides}
 use Rattle.std.specs.List.{filter, filter_map, find, last_or, list_any}
 use Rattle.std.specs.Option.{IsSomeAnd, option_or}
-use Rattle.std.specs.Prelude.{Err, IfErr, IfOk, MatchResult, Ok, Result, ◌==◌, bytes_eq, codes, if◌then◌else◌, slice_index_or, unwrap_or}
-use Rattle.ip_commands.specs.CommandLine.{AreArguments, IsMisuseOfCommand, IsMisuseOfOperands, IsRequestWith, after_mark, asked_by, asks_fail_empty, asks_skip_bad, before_mark, families_asked, first_unknown, form_asked, is_dashed, is_known, is_mark, operands_of, options_of, question_asked, words_needed}
+use Rattle.std.specs.Prelude.{Err, IfErr, IfOk, IsErrAnd, MatchResult, Ok, Result, ◌==◌, bytes_eq, codes, if◌then◌else◌, slice_index_or, unwrap_or}
+use Rattle.ip_commands.specs.CommandLine.{AreArguments, IsCommand, IsMisuseOfCommand, IsMisuseOfOperands, IsRequestWith, after_mark, asked_by, asks_fail_empty, asks_skip_bad, before_mark, families_asked, first_unknown, form_asked, is_dashed, is_known, is_mark, operands_of, options_of, question_asked, words_needed}
 use Rattle.ip_commands.specs.declared.arguments.Arguments.{Arguments}
 use Rattle.ip_commands.specs.declared.arguments.Options.{Options}
 use Rattle.ip_commands.specs.declared.fault.Misuse.{Misuse}
@@ -337,6 +337,15 @@ misuse-first options operands MissingNumber is = is
 misuse-first options operands MissingAddress is = is
 misuse-first options operands RepeatedInput is = absurd is
 misuse-first options operands NotText is = is
+
+-- What is wrong with the operands, if `?` passes it on.
+pub misuse-passed : (options : Options) (operands : List (List ℕ)) (result : Result Request Misuse)
+    (misuse : Misuse) → IsErrAnd result (λ other. other ≡ misuse)
+    → IsMisuseOfOperands operands misuse
+    → MatchResult result (IsCommand options operands) (IsMisuseOfCommand options operands)
+misuse-passed options operands (Ok request) misuse same is = absurd same
+misuse-passed options operands (Err other) misuse same is =
+    subst (IsMisuseOfCommand options operands) (sym same) (misuse-first options operands misuse is)
 
 -- A word that is none of the commands.
 pub no-command : (word : List ℕ) → word ≢ codes "union" → word ≢ codes "common"
