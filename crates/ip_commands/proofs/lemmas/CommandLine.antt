@@ -232,13 +232,13 @@ option_added word options = record {
 pub options-equal : (some other : Options) → some.form ≡ other.form
     → some.families ≡ other.families → some.question ≡ other.question
     → some.fail_empty ≡ other.fail_empty → some.skip_bad ≡ other.skip_bad → some ≡ other
-options-equal some other form families question fail_empty skip_bad =
-    ap (λ each. record some { form = each }) form
-    ∙ ap (λ each. record some { form = other.form; families = each }) families
-    ∙ ap (λ each. record some { form = other.form; families = other.families; question = each })
-    question
-    ∙ ap (λ each. record other { fail_empty = each; skip_bad = some.skip_bad }) fail_empty
-    ∙ ap (λ each. record other { skip_bad = each }) skip_bad
+options-equal some other form families question fail_empty skip_bad = λ i. record {
+  form = form i;
+  families = families i;
+  question = question i;
+  fail_empty = fail_empty i;
+  skip_bad = skip_bad i;
+}
 
 -- One more option adds what it asks for.
 pub asked-more : (options : List (List ℕ)) (word : List ℕ)
