@@ -1,10 +1,17 @@
 -- Reports of bad lines, one file after the other.
-use Rattle.std.proofs.Common.{◌≡◌, ◌∙◌, ℕ, ◌+◌, ◌<◌, suc, Bool, true, false, Bor, List, [], ◌∷◌, ◌++◌, length, map, take, drop, get_or, Option, refl, sym, ap, append_assoc, subst, true≢false}
+use Rattle.std.proofs.Common.{◌≡◌, ◌∙◌, ℕ, ◌+◌, ◌<◌, suc, Bool, true, false, Bor, List, [], ◌∷◌, ◌++◌, length, map, take, drop, get_or, Option, Some, None, refl, sym, ap, append_assoc, subst, true≢false}
 use Rattle.std.proofs.Common.{drop-cons}
 use Rattle.std.proofs.lemmas.List.{append-nil, flat_map_more, map-append, map_push, take-append-drop, take_more}
 use Rattle.std.proofs.lemmas.Slice.Zip.{all_zipped_more}
 use Rattle.std.specs.List.{AllZip}
-use Rattle.ip_commands.specs.Files.{AddsReport, AddsReports, AreReported, IsCheckFault, IsFaultOf, IsNotRead, IsReported}
+use Rattle.std.specs.Prelude.{Err, IfOk, IfSome, Ok, OnOk, Result}
+use Rattle.std.specs.Str.Lines.{lines}
+use Rattle.range_set_blaze.specs.Runs.{members}
+use Rattle.range_set_blaze.specs.Selection.{Selection}
+use Rattle.ip_sets.specs.List.{AreReportsFrom, IsListPast, reports_text}
+use Rattle.ip_sets.specs.declared.list.AddressList.{AddressList}
+use Rattle.ip_sets.specs.declared.list.bad_line.BadLine.{BadLine as Report}
+use Rattle.ip_commands.specs.Files.{AddsReport, AddsReports, AddsReportsOf, AreReported, IsCheckFault, IsFaultOf, IsNotRead, IsReported, SelectsPast, selected}
 use Rattle.ip_commands.specs.declared.fault.Fault.{Fault}
 use Rattle.ip_commands.specs.declared.fault.Fault.TheVariants.{BadLine, CommandLine, NoMemory, NotRead, NotWritten}
 use Rattle.ip_commands.proofs.lemmas.Files.{name_of}
@@ -43,6 +50,55 @@ past-fault bytes name (NotRead file error) is = is
 past-fault bytes name (NotWritten error) is = is
 past-fault bytes name NoMemory is = is
 past-fault bytes name (CommandLine misuse) is = is
+
+-- ---- one list
+
+-- The addresses of the lines that are not bad.
+past-known : {A : Type 0} (known : Option (List ℕ)) (reports : List Report) (list : AddressList A)
+    → IfSome known (λ all. IsListPast all reports (members list.v4) (members list.v6))
+    → IfSome known (λ all. SelectsPast true all (selected list))
+past-known None reports list is = tt
+past-known (Some all) reports list is = (reports, is)
+
+-- The reports of those that are.
+past-reported : (known : Option (List ℕ)) (reports : List Report) (v4 v6 : Selection)
+    → IfSome known (λ all. IsListPast all reports v4 v6)
+    → IfSome known (λ all. AreReportsFrom 1 (lines all) reports)
+past-reported None reports v4 v6 is = tt
+past-reported (Some all) reports v4 v6 is = is.reported
+
+module _ {A E : Type 0} (known : Option (List ℕ)) (name old new : List ℕ) where
+  -- Whether a list was read past bad lines, and these were reported.
+  abbrev ReadsPast : AddressList A → Type 0
+  ReadsPast list = (reports : List Report) × (new ≡ old ++ reports_text name reports)
+      × IfSome known (λ bytes. IsListPast bytes reports (members list.v4) (members list.v6))
+
+  -- The list has the addresses of the other lines.
+  pub past-selects : (result : Result (AddressList A) E) → IfOk result ReadsPast
+      → IfOk result (λ list. IfSome known (λ all. SelectsPast true all (selected list)))
+  past-selects (Ok list) has = past-known known has.0 list has.2
+  past-selects (Err error) has = tt
+
+  -- The reports were added.
+  pub past-adds : (result : Result (AddressList A) E) → IfOk result ReadsPast
+      → OnOk result (AddsReportsOf known true name old new)
+  past-adds (Ok list) has = (
+    reports_text name has.0,
+    (has.0, refl, past-reported known has.0 (members list.v4) (members list.v6) has.2),
+    has.1,
+  )
+  past-adds (Err error) has = tt
+
+-- If bad lines are not passed over, nothing was added.
+pub stopped-adds : {A E : Type 0} (known : Option (List ℕ)) (skip_bad : Bool) (name old : List ℕ)
+    (result : Result (AddressList A) E) → skip_bad ≡ false
+    → OnOk result (AddsReportsOf known skip_bad name old old)
+stopped-adds known skip_bad name old (Ok list) stops =
+    let same : AddsReportsOf known false name old old = refl in
+    subst (λ each. AddsReportsOf known each name old old) (sym stops) same
+stopped-adds known skip_bad name old (Err error) stops = tt
+
+-- ---- one file after the other
 
 module _ (bytes : List ℕ → Option (List ℕ)) (names : List (Bor (List ℕ))) (at : ℕ)
     (default : Bor (List ℕ)) (within : at < length names) where

@@ -1,4 +1,5 @@
-use Rattle.std.proofs.Common.{◌∙◌}
+use Rattle.std.proofs.Common.{◌∙◌, ap}
+use Rattle.ip_commands.specs.Fault.{outcome_past}
 use Rattle.ip_commands.proofs.lemmas.Program.{answered-first, answers-kept, ends-in, request-fault, told-first}
 use Rattle.ip_commands.specs.declared.fault.Fault.TheVariants.{NotWritten}
 use Rattle.ip_commands.proofs.program.answer.Goals as goal
@@ -47,5 +48,6 @@ returns g c = λ words are none.
           c.in_ok-flush.ensures.bytes,
       told-first bytes c.in_ok-request.request c.args.told.now.items c.run.new.told.items none
           c.in_ok-outcome.ensures.told,
-      c.past.ensures,
+      c.past.ensures
+          ∙ ap (λ each. outcome_past each c.in_ok-outcome.outcome) c.deref.ensures.value,
     )
