@@ -255,19 +255,11 @@ fn combination<'a>(
         form: options.form,
         families: options.families,
         fail_empty: options.fail_empty,
-        sources: sources(options, files),
+        sources: Sources {
+            files,
+            skip_bad: options.skip_bad,
+        },
     }))
-}
-
-// Returns the files that lists are read from.
-fn sources<'a>(options: Options, files: &'a [&'a str]) -> Sources<'a>
-    ensures files { result.files ≡ files.entry }
-    ensures skip_bad { result.skip_bad ≡ options.skip_bad }
-{
-    Sources {
-        files,
-        skip_bad: options.skip_bad,
-    }
 }
 
 // Returns what `except` and the words after it ask for.
@@ -314,7 +306,10 @@ fn count<'a>(options: Options, files: &'a [&'a str]) -> Result<Request<'a>, Misu
     }
     Ok(Request::Count {
         families: options.families,
-        sources: sources(options, files),
+        sources: Sources {
+            files,
+            skip_bad: options.skip_bad,
+        },
     })
 }
 
@@ -334,7 +329,10 @@ fn has<'a>(options: Options, words: &'a [&'a str]) -> Result<Request<'a>, Misuse
     match text.parse::<IpAddr>() {
         Ok(address) => Ok(Request::Has {
             address,
-            sources: sources(options, files),
+            sources: Sources {
+                files,
+                skip_bad: options.skip_bad,
+            },
         }),
         Err(_) => Err(Misuse::NoAddress(*text)),
     }

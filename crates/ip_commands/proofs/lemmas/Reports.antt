@@ -67,20 +67,20 @@ past-reported : (known : Option (List ℕ)) (reports : List Report) (v4 v6 : Sel
 past-reported None reports v4 v6 is = tt
 past-reported (Some all) reports v4 v6 is = is.reported
 
-module _ {A E : Type 0} (known : Option (List ℕ)) (name old new : List ℕ) where
+module _ {A : Type 0} (known : Option (List ℕ)) (name old new : List ℕ) where
   -- Whether a list was read past bad lines, and these were reported.
-  abbrev ReadsPast : AddressList A → Type 0
+  abbrev pub ReadsPast : AddressList A → Type 0
   ReadsPast list = (reports : List Report) × (new ≡ old ++ reports_text name reports)
       × IfSome known (λ bytes. IsListPast bytes reports (members list.v4) (members list.v6))
 
   -- The list has the addresses of the other lines.
-  pub past-selects : (result : Result (AddressList A) E) → IfOk result ReadsPast
+  pub past-selects : {E : Type 0} (result : Result (AddressList A) E) → IfOk result ReadsPast
       → IfOk result (λ list. IfSome known (λ all. SelectsPast true all (selected list)))
   past-selects (Ok list) has = past-known known has.0 list has.2
   past-selects (Err error) has = tt
 
   -- The reports were added.
-  pub past-adds : (result : Result (AddressList A) E) → IfOk result ReadsPast
+  pub past-adds : {E : Type 0} (result : Result (AddressList A) E) → IfOk result ReadsPast
       → OnOk result (AddsReportsOf known true name old new)
   past-adds (Ok list) has = (
     reports_text name has.0,

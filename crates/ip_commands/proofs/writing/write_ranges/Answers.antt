@@ -8,5 +8,5 @@ pub returns : goal.returns
 returns g c =
     lays-sent (g.I.Draw.may_give c.args.ranges)
     (IsSignedSet c.args.sign.now g.T.AddressText.text g.T.Integer.rank g.T.Address.width g.T.Integer.value_count
-    c.args.form) _ _ _ _ _ _ c.new-page.ensures c.in_ok-lay_stream.ensures (ap not c.is_empty.ensures)
+    c.args.form) _ _ _ _ _ _ c.new-page.ensures c.in_ok-lay_stream.ensures (ap not c.is_empty-some.ensures)
     c.in_ok-send.ensures.written

@@ -47,5 +47,5 @@ pub returns-clause-told : goal.returns-clause-told
 returns-clause-told g c =
     let diff = c.args.diff in
     adds-both (g.I.Inputs.bytes c.args.inputs.now) diff.skip_bad diff.old.now diff.new.now
-    c.args.told.now.items c.read_file-old.new.told.items c.read_file-new.new.told.items
+    c.args.told.now.items c.read_file.new.told.items c.read_file-2.new.told.items
     c.in_ok-old.ensures.told c.in_ok-new.ensures.told
