@@ -93,14 +93,15 @@ module _ (sign : List ℕ) (form : Form) (families : Families) (these those : Se
   Kept some which old new = WritesSelected some sign form which these those old new
 
   -- Both families were written.
-  pub both-selected : (old mid new : Option (List ℕ)) (has_v4 has_v6 : Bool) → families ≡ Both
+  pub both-selected : (old mid new : Option (List ℕ)) (has_v4 has_v6 some : Bool)
+      → families ≡ Both → (has_v4 || has_v6) ≡ some
       → (runs : List Interval) × first_may runs × WritesV4 has_v4 sign form runs old mid
       → (runs : List Interval) × last_may runs × WritesV6 has_v6 sign form runs mid new
-      → Kept (has_v4 || has_v6) families old new
-  both-selected old mid new has_v4 has_v6 is first last =
+      → Kept some families old new
+  both-selected old mid new has_v4 has_v6 some is either first last =
       let v4 = first.2 in
       let v6 = last.2 in
-      let whole : Kept (has_v4 || has_v6) Both old new = record {
+      let whole : Kept some Both old new = record {
         v4_runs = first.0;
         v6_runs = last.0;
         v4_made = runs-members (2 ^ 32) these first.0 (first_only first.0 first.1);
@@ -108,9 +109,9 @@ module _ (sign : List ℕ) (form : Form) (families : Families) (these those : Se
         text = v4.0 ++ v6.0;
         whole = both-lines sign form first.0 last.0 v4.0 v6.0 v4.1 v6.1;
         written = Appends-then old mid new v4.0 v6.0 v4.2 v6.2;
-        has_line = either-has has_v4 has_v6 v4.0 v6.0 v4.3 v6.3;
+        has_line = sym either ∙ either-has has_v4 has_v6 v4.0 v6.0 v4.3 v6.3;
       } in
-      subst (λ which. Kept (has_v4 || has_v6) which old new) (sym is) whole
+      subst (λ which. Kept some which old new) (sym is) whole
 
   -- Only IPv4 was written.
   pub v4-selected : {E : Type 0} (result : Result Bool E) (old new : Option (List ℕ))

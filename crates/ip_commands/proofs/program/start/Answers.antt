@@ -1,4 +1,4 @@
-use Rattle.std.proofs.Common.{[], map, refl}
+use Rattle.std.proofs.Common.{◌∙◌, [], map}
 use Rattle.std.specs.Prelude.{Err}
 use Rattle.ip_commands.proofs.lemmas.Appends.{Keeps-then}
 use Rattle.ip_commands.proofs.lemmas.Program.{word-fault}

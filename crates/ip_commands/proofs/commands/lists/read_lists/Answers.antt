@@ -1,4 +1,4 @@
-use Rattle.std.proofs.Common.{◌∙◌, ◌+◌, map, subst, sym, take}
+use Rattle.std.proofs.Common.{◌∙◌, ◌+◌, [], map, refl, subst, sym, take}
 use Rattle.ip_commands.specs.Files.{AreFilesOf, IsFirstFault, selected}
 use Rattle.ip_commands.proofs.lemmas.Files.{fault-here, files-more, name_of, passed-on}
 use Rattle.ip_commands.proofs.lemmas.Reports.{adds-more, adds-none}
@@ -10,7 +10,8 @@ loop-file-init g c =
     let bytes = g.I.Inputs.bytes c.args.inputs.now in
     let skip_bad = c.args.sources.skip_bad in
     record {
-      lists = tt;
+      lists = subst (λ lists. AreFilesOf bytes skip_bad [] (map selected lists))
+          (sym c.new-lists.ensures.items) tt;
       told = adds-none bytes skip_bad c.args.told.now.items;
       quiet = λ _. refl;
     }
