@@ -1,7 +1,6 @@
 -- The answers to requests.
 use Rattle.std.specs.Prelude.{◌≡◌, ℕ, ◌-◌, ◌^◌, Bool, List, [], ◌∷◌, ◌++◌, Option, codes, IfSome, decimal, filter, flat_map, length, map, min, zip}
 use Rattle.std.specs.List.{AllZip}
-use Rattle.std.specs.Str.Lines.{lines}
 use Rattle.std.specs.Io.KnownBytes.{Appends}
 use Rattle.std.specs.Net.Addr.{ipv4_bits, ipv6_bits}
 use Rattle.std.specs.declared.net.ip_addr.IpAddr.{IpAddr}
@@ -10,7 +9,7 @@ use Rattle.range_set_blaze.specs.Runs.{Interval, IsCanonicalIn, members}
 use Rattle.range_set_blaze.specs.Selection.{Agree, Selection, any_of, count, difference}
 use Rattle.ip_sets.specs.Blocks.{AreMaximalBlocks}
 use Rattle.ip_sets.specs.declared.list.bad_line.BadLine.{BadLine as Report}
-use Rattle.ip_sets.specs.List.{AreReportsFrom, reports_text}
+use Rattle.ip_sets.specs.List.{AreReportsFrom, list_lines, reports_text}
 use Rattle.ip_sets.specs.Operation.{selected_by}
 use Rattle.ip_commands.specs.Files.{AreFilesOf, IsFileOf, Selected}
 use Rattle.ip_commands.specs.Text.{IsListText, IsSignedList, kept_v4, kept_v6}
@@ -169,7 +168,7 @@ module _ (bytes : List ℕ → Option (List ℕ)) where
   -- reason and its text. If the bytes of the file are not known, this claims only the form.
   abbrev pub IsReported : List ℕ → List ℕ → Type 0
   IsReported file text = (reports : List Report) × (text ≡ reports_text file reports)
-      × IfSome (bytes file) (λ all. AreReportsFrom 1 (lines all) reports)
+      × IfSome (bytes file) (λ all. AreReportsFrom 1 (list_lines all) reports)
 
   -- Whether the text has a line for each bad line of the files, in order.
   pub record AreReported (files : List (List ℕ)) (text : List ℕ) : Type 0 where
