@@ -2,10 +2,9 @@
 use Rattle.std.specs.Prelude.{◌≡◌, ℕ, Bool, true, false, IsFalse, List, ◌∷◌, ◌++◌, All, IfSome, Option, flat_map, map}
 use Rattle.std.specs.Io.KnownBytes.{Keeps}
 use Rattle.std.specs.List.{AllZip}
-use Rattle.std.specs.Str.Lines.{lines}
 use Rattle.range_set_blaze.specs.Runs.{members}
 use Rattle.range_set_blaze.specs.Selection.{Selection}
-use Rattle.ip_sets.specs.List.{AreReportsFrom, IsFirstBadLine, IsListOf, IsListPast, reports_text}
+use Rattle.ip_sets.specs.List.{AreReportsFrom, IsFirstBadLine, IsListOf, IsListPast, reports_text, list_lines}
 use Rattle.ip_sets.specs.declared.list.AddressList.{AddressList}
 use Rattle.ip_sets.specs.declared.list.bad_line.BadLine.{BadLine as Report}
 use Rattle.ip_commands.specs.declared.fault.Fault.{Fault}
@@ -83,7 +82,7 @@ module _ (bytes : List ℕ → Option (List ℕ)) (skip_bad : Bool) where
 -- number, a reason and its text. If the bytes are not known, this claims only the form.
 abbrev pub AreReportsOf : Option (List ℕ) → List ℕ → List ℕ → Type 0
 AreReportsOf known file text = (reports : List Report) × (text ≡ reports_text file reports)
-    × IfSome known (λ all. AreReportsFrom 1 (lines all) reports)
+    × IfSome known (λ all. AreReportsFrom 1 (list_lines all) reports)
 
 -- Whether the reports of such a file were added to a text, if bad lines are passed over.
 abbrev pub AddsReportsOf : Option (List ℕ) → Bool → List ℕ → (old new : List ℕ) → Type 0

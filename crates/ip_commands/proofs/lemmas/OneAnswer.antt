@@ -3,7 +3,6 @@ use Rattle.std.proofs.Common.{◌≡◌, ◌∙◌, ℕ, ◌-◌, ◌^◌, Bool,
 use Rattle.std.proofs.lemmas.List.Elements.{All-head, All-tail}
 use Rattle.std.specs.Option.{IfSome, IsSome}
 use Rattle.std.specs.Prelude.{codes}
-use Rattle.std.specs.Str.Lines.{lines}
 use Rattle.std.specs.declared.net.ip_addr.IpAddr.{IpAddr}
 use Rattle.range_set_blaze.specs.Runs.{members, Interval, IsCanonicalIn}
 use Rattle.range_set_blaze.specs.Selection.{Agree, Selection, any_of, count}
@@ -12,7 +11,7 @@ use Rattle.ip_sets.specs.Address.{v4_text, v6_text}
 use Rattle.ip_sets.specs.Blocks.{AreMaximalBlocks}
 use Rattle.ip_sets.specs.Operation.{selected_by}
 use Rattle.ip_sets.specs.Line.{MeansV4, MeansV6}
-use Rattle.ip_sets.specs.List.{AreAddressesOf}
+use Rattle.ip_sets.specs.List.{AreAddressesOf, list_lines}
 use Rattle.ip_sets.proofs.lemmas.listing.OneSelection.{one_selection}
 use Rattle.ip_commands.specs.Answer.{v4_of, v6_of, AreCounts, IsCombined, IsCountText, IsCounted, IsFound, count_line, found_outcome, has_address, names_text, names_with}
 use Rattle.ip_commands.specs.Files.{AreFilesOf, Selected, SelectsPast, file_names}
@@ -28,12 +27,12 @@ use Rattle.ip_commands.proofs.lemmas.SameText.{one-list, same-set}
 
 -- Selections of the addresses of the same lines are the same.
 same-addresses : (all : List ℕ) (list other : Selected)
-    → AreAddressesOf MeansV4 (lines all) list.v4 → AreAddressesOf MeansV6 (lines all) list.v6
-    → AreAddressesOf MeansV4 (lines all) other.v4 → AreAddressesOf MeansV6 (lines all) other.v6
+    → AreAddressesOf MeansV4 (list_lines all) list.v4 → AreAddressesOf MeansV6 (list_lines all) list.v6
+    → AreAddressesOf MeansV4 (list_lines all) other.v4 → AreAddressesOf MeansV6 (list_lines all) other.v6
     → list ≡ other
 same-addresses all list other v4 v6 other4 other6 =
-    let same4 = one_selection MeansV4 (lines all) list.v4 other.v4 v4 other4 in
-    let same6 = one_selection MeansV6 (lines all) list.v6 other.v6 v6 other6 in
+    let same4 = one_selection MeansV4 (list_lines all) list.v4 other.v4 v4 other4 in
+    let same6 = one_selection MeansV6 (list_lines all) list.v6 other.v6 v6 other6 in
     λ i. record { v4 = λ number. same4 number i; v6 = λ number. same6 number i }
 
 -- The same bytes select the same addresses.

@@ -5,10 +5,9 @@ use Rattle.std.proofs.lemmas.List.{append-nil, flat_map_more, map-append, map_pu
 use Rattle.std.proofs.lemmas.Slice.Zip.{all_zipped_more}
 use Rattle.std.specs.List.{AllZip}
 use Rattle.std.specs.Prelude.{Err, IfOk, IfSome, Ok, OnOk, Result}
-use Rattle.std.specs.Str.Lines.{lines}
 use Rattle.range_set_blaze.specs.Runs.{members}
 use Rattle.range_set_blaze.specs.Selection.{Selection}
-use Rattle.ip_sets.specs.List.{AreReportsFrom, IsListPast, reports_text}
+use Rattle.ip_sets.specs.List.{AreReportsFrom, IsListPast, reports_text, list_lines}
 use Rattle.ip_sets.specs.declared.list.AddressList.{AddressList}
 use Rattle.ip_sets.specs.declared.list.bad_line.BadLine.{BadLine as Report}
 use Rattle.ip_commands.specs.Files.{AddsReport, AddsReports, AddsReportsOf, AreReported, IsCheckFault, IsFaultOf, IsNotRead, IsReported, SelectsPast, selected}
@@ -63,7 +62,7 @@ past-known (Some all) reports list is = (reports, is)
 -- The reports of those that are.
 past-reported : (known : Option (List ℕ)) (reports : List Report) (v4 v6 : Selection)
     → IfSome known (λ all. IsListPast all reports v4 v6)
-    → IfSome known (λ all. AreReportsFrom 1 (lines all) reports)
+    → IfSome known (λ all. AreReportsFrom 1 (list_lines all) reports)
 past-reported None reports v4 v6 is = tt
 past-reported (Some all) reports v4 v6 is = is.reported
 
