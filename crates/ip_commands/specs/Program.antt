@@ -21,22 +21,22 @@ IsTold bytes request told = AddsReports bytes (skips_bad request) (files_of requ
 -- known. `told` are the reports of bad lines that were passed over.
 module _ (bytes : List ℕ → Option (List ℕ)) (words : List (List ℕ)) (told : List ℕ)
     (old new : Option (List ℕ)) where
-    -- Whether the words ask for something, and the fault is the first one in it. Nothing was
-    -- written then, unless a write failed. A write comes only after each file was read as a list.
-    abbrev pub EndsInFault : Fault → Type 0
-    EndsInFault NoMemory = Keeps old new
-    EndsInFault (CommandLine misuse) = IsMisuse words misuse × Keeps old new
-    EndsInFault fault = (request : Request) × IsRequest words request
-        × IsFirstFaultOf bytes request fault × KeepsUnlessWriting fault old new
-        × (IsFalse (skips_bad request) → told ≡ [])
+  -- Whether the words ask for something, and the fault is the first one in it. Nothing was
+  -- written then, unless a write failed. A write comes only after each file was read as a list.
+  abbrev pub EndsInFault : Fault → Type 0
+  EndsInFault NoMemory = Keeps old new
+  EndsInFault (CommandLine misuse) = IsMisuse words misuse × Keeps old new
+  EndsInFault fault = (request : Request) × IsRequest words request
+      × IsFirstFaultOf bytes request fault × KeepsUnlessWriting fault old new
+      × (IsFalse (skips_bad request) → told ≡ [])
 
-    -- Whether a run on these words ends like this: what they ask for was answered, or there was a
-    -- fault.
-    abbrev pub Ends : Result Outcome Fault → Type 0
-    Ends (Ok ending) = (request : Request) × (outcome : Outcome) × IsRequest words request
-        × Answers bytes request outcome old new × IsTold bytes request told
-        × (ending ≡ outcome_past told outcome)
-    Ends (Err fault) = EndsInFault fault
+  -- Whether a run on these words ends like this: what they ask for was answered, or there was a
+  -- fault.
+  abbrev pub Ends : Result Outcome Fault → Type 0
+  Ends (Ok ending) = (request : Request) × (outcome : Outcome) × IsRequest words request
+      × Answers bytes request outcome old new × IsTold bytes request told
+      × (ending ≡ outcome_past told outcome)
+  Ends (Err fault) = EndsInFault fault
 
 -- Whether the fault can come before the words are known: a failed allocation, or an argument that is
 -- not UTF-8.

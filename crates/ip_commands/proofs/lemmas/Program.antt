@@ -32,44 +32,44 @@ no-misuse bytes (Check files) misuse first = first
 
 module _ (bytes : List ℕ → Option (List ℕ)) (words : List (List ℕ)) (told : List ℕ)
     (old new : Option (List ℕ)) where
-    -- The first fault in what the words ask for.
-    pub request-fault : (request : Request) (fault : Fault) → IsRequest words request
-        → IsFirstFaultOf bytes request fault → KeepsUnlessWriting fault old new
-        → (IsFalse (skips_bad request) → told ≡ []) → EndsInFault bytes words told old new fault
-    request-fault request (BadLine file bad) asked first keeps quiet =
-        (request, asked, first, keeps, quiet)
-    request-fault request (NotRead file error) asked first keeps quiet =
-        (request, asked, first, keeps, quiet)
-    request-fault request (NotWritten error) asked first keeps quiet =
-        (request, asked, first, keeps, quiet)
-    request-fault request NoMemory asked first keeps quiet = keeps
-    request-fault request (CommandLine misuse) asked first keeps quiet =
-        absurd (no-misuse bytes request misuse first)
+  -- The first fault in what the words ask for.
+  pub request-fault : (request : Request) (fault : Fault) → IsRequest words request
+      → IsFirstFaultOf bytes request fault → KeepsUnlessWriting fault old new
+      → (IsFalse (skips_bad request) → told ≡ []) → EndsInFault bytes words told old new fault
+  request-fault request (BadLine file bad) asked first keeps quiet =
+      (request, asked, first, keeps, quiet)
+  request-fault request (NotRead file error) asked first keeps quiet =
+      (request, asked, first, keeps, quiet)
+  request-fault request (NotWritten error) asked first keeps quiet =
+      (request, asked, first, keeps, quiet)
+  request-fault request NoMemory asked first keeps quiet = keeps
+  request-fault request (CommandLine misuse) asked first keeps quiet =
+      absurd (no-misuse bytes request misuse first)
 
-    -- A write that fails after a request was answered is its first fault.
-    pub answered-first : (request : Request) (outcome : Outcome) (error : Error)
-        → Answers bytes request outcome old new
-        → IsFirstFaultOf bytes request (NotWritten error)
-    answered-first Help outcome error answer = All-nil (IsGoodFile bytes false)
-    answered-first Version outcome error answer = All-nil (IsGoodFile bytes false)
-    answered-first (Combine it) outcome error answer =
-        all-good bytes it.sources.skip_bad (files_of (Combine it)) answer.1.lists answer.1.are
-    answered-first (Count families sources) outcome error answer =
-        all-good bytes sources.skip_bad (files_of (Count families sources)) answer.1.1.lists answer.1.1.are
-    answered-first (Has address sources) outcome error answer =
-        all-good bytes sources.skip_bad (files_of (Has address sources)) answer.1.lists answer.1.are
-    answered-first (Compare diff) outcome error answer =
-        let Good = IsGoodFile bytes diff.skip_bad in
-        All-cons Good diff.old.now (diff.new.now ∷ []) (answer.1.old, answer.1.old_is)
-        (All-cons Good diff.new.now [] (answer.1.new, answer.1.new_is) (All-nil Good))
-    answered-first (Check files) outcome error answer = tt
+  -- A write that fails after a request was answered is its first fault.
+  pub answered-first : (request : Request) (outcome : Outcome) (error : Error)
+      → Answers bytes request outcome old new
+      → IsFirstFaultOf bytes request (NotWritten error)
+  answered-first Help outcome error answer = All-nil (IsGoodFile bytes false)
+  answered-first Version outcome error answer = All-nil (IsGoodFile bytes false)
+  answered-first (Combine it) outcome error answer =
+      all-good bytes it.sources.skip_bad (files_of (Combine it)) answer.1.lists answer.1.are
+  answered-first (Count families sources) outcome error answer =
+      all-good bytes sources.skip_bad (files_of (Count families sources)) answer.1.1.lists answer.1.1.are
+  answered-first (Has address sources) outcome error answer =
+      all-good bytes sources.skip_bad (files_of (Has address sources)) answer.1.lists answer.1.are
+  answered-first (Compare diff) outcome error answer =
+      let Good = IsGoodFile bytes diff.skip_bad in
+      All-cons Good diff.old.now (diff.new.now ∷ []) (answer.1.old, answer.1.old_is)
+      (All-cons Good diff.new.now [] (answer.1.new, answer.1.new_is) (All-nil Good))
+  answered-first (Check files) outcome error answer = tt
 
-    -- The fault that `?` returns.
-    pub ends-in : (result : Result Outcome Fault) (fault : Fault)
-        → IsErrAnd result (λ other. other ≡ fault) → EndsInFault bytes words told old new fault
-        → Ends bytes words told old new result
-    ends-in (Ok outcome) fault same is = absurd same
-    ends-in (Err other) fault same is = subst (EndsInFault bytes words told old new) (sym same) is
+  -- The fault that `?` returns.
+  pub ends-in : (result : Result Outcome Fault) (fault : Fault)
+      → IsErrAnd result (λ other. other ≡ fault) → EndsInFault bytes words told old new fault
+      → Ends bytes words told old new result
+  ends-in (Ok outcome) fault same is = absurd same
+  ends-in (Err other) fault same is = subst (EndsInFault bytes words told old new) (sym same) is
 
 -- If nothing changes after a request was answered, it was answered.
 pub answers-kept : (bytes : List ℕ → Option (List ℕ)) (request : Request) (outcome : Outcome)

@@ -92,6 +92,10 @@ fn needed(alloc: Global, row: (&[&str], u8, &[u8])) -> Option<usize> {
 #[test]
 fn each_allocation_fails_in_turn(rt: HostRuntime) {
     for row in &COMMANDS {
-        assert!(rt; matches!(needed(rt.alloc(), *row), Some(3..)), "{:?}", row.0);
+        assert!(rt;
+            matches!(needed(rt.alloc(), *row), Some(3..)),
+            "{:?}",
+            row.0
+        );
     }
 }

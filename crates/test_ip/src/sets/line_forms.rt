@@ -57,11 +57,7 @@ static V6_MASKS: [(&str, u128, u128); 4] = [
         0x1_0000,
         0x1_ffff,
     ),
-    (
-        "::5/ffff:ffff:ffff:ffff:ffff:ffff:ffff:ffff",
-        5,
-        5,
-    ),
+    ("::5/ffff:ffff:ffff:ffff:ffff:ffff:ffff:ffff", 5, 5),
     ("2001:db8::1/::", 0, u128::MAX),
 ];
 
@@ -80,11 +76,7 @@ static SPANS: [(&str, u32, u32); 9] = [
     ("1.2.3.0/24-1.2.3.9/25", 0x0102_0300, 0x0102_037f),
     ("1.2.3.128/25-1.2.3.0/24", 0x0102_0380, 0x0102_03ff),
     ("1.2.3.0/24-1.2.3.0", 0x0102_0300, 0x0102_0300),
-    (
-        "10.0.0.0/255.0.0.0-11.0.0.0/8",
-        0x0a00_0000,
-        0x0bff_ffff,
-    ),
+    ("10.0.0.0/255.0.0.0-11.0.0.0/8", 0x0a00_0000, 0x0bff_ffff),
     ("0.0.0.0/1-128.0.0.0/1", 0, 0xffff_ffff),
     ("1.2.3.4/32-1.2.3.5/32", 0x0102_0304, 0x0102_0305),
 ];
@@ -100,7 +92,11 @@ fn a_range_goes_from_the_first_of_a_block_to_the_last_of_another(rt: HostRuntime
 static V6_SPANS: [(&str, u128, u128); 3] = [
     ("2001:db8::/32-2001:db8::/32", DB8, DB8_LAST),
     ("::1-::1:0/112", 1, 0x1_ffff),
-    ("::1:7/ffff:ffff:ffff:ffff:ffff:ffff:ffff:0 - ::2:3", 0x1_0000, 0x2_0003),
+    (
+        "::1:7/ffff:ffff:ffff:ffff:ffff:ffff:ffff:0 - ::2:3",
+        0x1_0000,
+        0x2_0003,
+    ),
 ];
 
 #[test]
