@@ -3,7 +3,7 @@ _ip_lists() {
     local word=${COMP_WORDS[COMP_CWORD]} operations="union common except odd at-least complement count has diff check" at
     COMPREPLY=()
     if [[ $word == -* ]]; then
-        mapfile -t COMPREPLY < <(compgen -W "--blocks --ranges -4 -6 -h --help --version --" -- "$word")
+        mapfile -t COMPREPLY < <(compgen -W "--blocks --ranges -4 -6 --fail-empty --skip-bad -h --help --version --" -- "$word")
         return
     fi
     for ((at = 1; at < COMP_CWORD; at++)); do

@@ -1,7 +1,5 @@
 -- The answers to requests.
-use Rattle.std.specs.Prelude.{◌≡◌, ℕ, ◌-◌, ◌^◌, Bool, List, [], ◌∷◌, ◌++◌, Option, codes, IfSome, decimal, filter, flat_map, length, map, min, zip}
-use Rattle.std.specs.List.{AllZip}
-use Rattle.std.specs.Str.Lines.{lines}
+use Rattle.std.specs.Prelude.{◌≡◌, ℕ, ◌-◌, ◌^◌, Bool, not, ◌&&◌, List, [], ◌∷◌, ◌++◌, Option, codes, if◌then◌else◌, decimal, filter, flat_map, length, map, min, zip}
 use Rattle.std.specs.Io.KnownBytes.{Appends}
 use Rattle.std.specs.Net.Addr.{ipv4_bits, ipv6_bits}
 use Rattle.std.specs.declared.net.ip_addr.IpAddr.{IpAddr}
@@ -9,15 +7,14 @@ use Rattle.std.specs.declared.net.ip_addr.IpAddr.TheVariants as Ip
 use Rattle.range_set_blaze.specs.Runs.{Interval, IsCanonicalIn, members}
 use Rattle.range_set_blaze.specs.Selection.{Agree, Selection, any_of, count, difference}
 use Rattle.ip_sets.specs.Blocks.{AreMaximalBlocks}
-use Rattle.ip_sets.specs.declared.list.bad_line.BadLine.{BadLine as Report}
-use Rattle.ip_sets.specs.List.{AreReportsFrom, reports_text}
+use Rattle.ip_sets.specs.List.{has_bytes}
 use Rattle.ip_sets.specs.Operation.{selected_by}
-use Rattle.ip_commands.specs.Files.{AreFilesOf, IsFileOf, Selected}
+use Rattle.ip_commands.specs.Files.{AreFilesOf, AreReported, IsFileOf, Selected, file_names}
 use Rattle.ip_commands.specs.Text.{IsListText, IsSignedList, kept_v4, kept_v6}
 use Rattle.ip_commands.specs.declared.request.Diff.{Diff}
 use Rattle.ip_commands.specs.declared.request.Form.{Form}
 use Rattle.ip_commands.specs.declared.commands.Outcome.{Outcome}
-use Rattle.ip_commands.specs.declared.commands.Outcome.TheVariants.{BadLines, Differs, Done, InNone}
+use Rattle.ip_commands.specs.declared.commands.Outcome.TheVariants.{BadLines, Differs, Done, Empty, InNone}
 use Rattle.ip_commands.specs.declared.commands.TheConstants.{HELP, VERSION}
 use Rattle.ip_commands.specs.declared.request.Request.{Request}
 use Rattle.ip_commands.specs.declared.request.Combination.{Combination}
@@ -32,6 +29,12 @@ v4_of lists = map (λ list. list.v4) lists
 -- The IPv6 addresses of each list.
 abbrev pub v6_of : List Selected → List Selection
 v6_of lists = map (λ list. list.v6) lists
+
+-- ---- what an operation selects
+
+-- How an operation ends that writes this text: as a failure if it is empty and that is asked for.
+abbrev pub combined_outcome : Bool → List ℕ → Outcome
+combined_outcome fail_empty text = if fail_empty && not (has_bytes text) then Empty else Done
 
 -- ---- counts
 
@@ -128,7 +131,7 @@ module _ (bytes : List ℕ → Option (List ℕ)) where
   -- Whether the text is that of what an operation selects from the lists in files.
   pub record IsCombined (combination : Combination) (text : List ℕ) : Type 0 where
     pub lists : List Selected
-    pub are : AreFilesOf bytes (map (λ name. name.now) combination.files.now) lists
+    pub are : AreFilesOf bytes combination.sources.skip_bad (file_names combination.sources) lists
     pub v4 : List Interval
     pub v6 : List Interval
     pub v4_made : Agree (2 ^ 32) (members v4) (selected_by combination.operation (v4_of lists))
@@ -137,9 +140,10 @@ module _ (bytes : List ℕ → Option (List ℕ)) where
         (kept_v6 combination.families v6) text
 
   -- Whether the text counts the addresses that some list in the files has.
-  pub record IsCounted (families : Families) (files : List (List ℕ)) (text : List ℕ) : Type 0 where
+  pub record IsCounted (families : Families) (skip_bad : Bool) (files : List (List ℕ))
+      (text : List ℕ) : Type 0 where
     pub lists : List Selected
-    pub are : AreFilesOf bytes files lists
+    pub are : AreFilesOf bytes skip_bad files lists
     pub v4 : List Interval
     pub v6 : List Interval
     pub v4_made : Agree (2 ^ 32) (members v4) (any_of (v4_of lists))
@@ -148,10 +152,10 @@ module _ (bytes : List ℕ → Option (List ℕ)) where
 
   -- Whether the text names the files whose list has the address, and the outcome says whether there
   -- is one.
-  pub record IsFound (address : IpAddr) (files : List (List ℕ)) (outcome : Outcome)
-      (text : List ℕ) : Type 0 where
+  pub record IsFound (address : IpAddr) (skip_bad : Bool) (files : List (List ℕ))
+      (outcome : Outcome) (text : List ℕ) : Type 0 where
     pub lists : List Selected
-    pub are : AreFilesOf bytes files lists
+    pub are : AreFilesOf bytes skip_bad files lists
     pub ends : outcome ≡ found_outcome (names_with (has_address address) files lists)
     pub whole : text ≡ names_text (names_with (has_address address) files lists)
 
@@ -160,38 +164,27 @@ module _ (bytes : List ℕ → Option (List ℕ)) where
   pub record IsDiffed (diff : Diff) (outcome : Outcome) (text : List ℕ) : Type 0 where
     pub old : Selected
     pub new : Selected
-    pub old_is : IsFileOf bytes diff.old.now old
-    pub new_is : IsFileOf bytes diff.new.now new
+    pub old_is : IsFileOf bytes diff.skip_bad diff.old.now old
+    pub new_is : IsFileOf bytes diff.skip_bad diff.new.now new
     pub differs : IsDiffText diff.form diff.families old new text
     pub ends : IsDiffOutcome outcome (AreSame diff.families old new)
 
-  -- Whether the text has a line for each bad line of the file with this name, with its number, a
-  -- reason and its text. If the bytes of the file are not known, this claims only the form.
-  abbrev pub IsReported : List ℕ → List ℕ → Type 0
-  IsReported file text = (reports : List Report) × (text ≡ reports_text file reports)
-      × IfSome (bytes file) (λ all. AreReportsFrom 1 (lines all) reports)
-
-  -- Whether the text has a line for each bad line of the files, in order.
-  pub record AreReported (files : List (List ℕ)) (text : List ℕ) : Type 0 where
-    pub texts : List (List ℕ)
-    pub each : AllZip IsReported files texts
-    pub whole : text ≡ flat_map (λ (part : List ℕ). part) texts
-
-  -- Whether the text is that, and the outcome says whether there is a bad line.
+  -- Whether the text has a line for each bad line of the files, in order, and the outcome says whether
+  -- there is one.
   abbrev pub IsChecked : List (List ℕ) → Outcome → List ℕ → Type 0
-  IsChecked files outcome text = AreReported files text × (outcome ≡ checked_outcome text)
+  IsChecked files outcome text = AreReported bytes files text × (outcome ≡ checked_outcome text)
 
   -- Whether a request was answered by what was written.
   abbrev pub Answers : Request → Outcome → Option (List ℕ) → Option (List ℕ) → Type 0
   Answers Help outcome old new = (outcome ≡ Done) × Appends old new HELP.now
   Answers Version outcome old new = (outcome ≡ Done) × Appends old new VERSION.now
-  Answers (Combine it) outcome old new =
-      (outcome ≡ Done) × ((text : List ℕ) × IsCombined it text × Appends old new text)
-  Answers (Count families files) outcome old new = (outcome ≡ Done)
-      × ((text : List ℕ) × IsCounted families (map (λ name. name.now) files.now) text
+  Answers (Combine it) outcome old new = (text : List ℕ) × IsCombined it text
+      × (outcome ≡ combined_outcome it.fail_empty text) × Appends old new text
+  Answers (Count families sources) outcome old new = (outcome ≡ Done)
+      × ((text : List ℕ) × IsCounted families sources.skip_bad (file_names sources) text
       × Appends old new text)
-  Answers (Has address files) outcome old new =
-      (text : List ℕ) × IsFound address (map (λ name. name.now) files.now) outcome text
+  Answers (Has address sources) outcome old new =
+      (text : List ℕ) × IsFound address sources.skip_bad (file_names sources) outcome text
       × Appends old new text
   Answers (Compare diff) outcome old new =
       (text : List ℕ) × IsDiffed diff outcome text × Appends old new text

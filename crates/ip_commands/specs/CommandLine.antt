@@ -1,20 +1,23 @@
 -- Command lines: what the words after the program's name ask for, or the first thing that is wrong
 -- with them.
-use Rattle.std.specs.Prelude.{◌≡◌, ℕ, ◌^◌, ◌<◌, ◌≤◌, Bool, not, ◌&&◌, ◌||◌, List, [], ◌∷◌, ◌++◌, Option, Some, None, is_some, unwrap_or, bytes_eq, codes, filter, filter_map, find, if◌then◌else◌, length, map, nat_lt}
-use Rattle.std.specs.List.{last_or, list_any}
+use Rattle.std.specs.Prelude.{◌≡◌, ℕ, ◌^◌, ◌<◌, ◌≤◌, Bool, not, ◌&&◌, ◌||◌, IsFalse, IsTrue, List, [], ◌∷◌, ◌++◌, Option, Some, None, is_some, unwrap_or, bytes_eq, codes, filter, filter_map, find, if◌then◌else◌, length, map, nat_lt}
+use Rattle.std.specs.List.{count_by, last_or, list_any}
 use Rattle.std.specs.Option.{IsSomeAnd}
 use Rattle.std.specs.Str.Parse.{IsNumeral, digits_value, starts_with_minus, without_leading_plus}
 use Rattle.std.specs.Net.Grammar.{IsIpText}
 use Rattle.std.specs.declared.net.ip_addr.IpAddr.{IpAddr}
 use Rattle.ip_sets.specs.declared.operations.Operation.{Operation}
 use Rattle.ip_sets.specs.declared.operations.Operation.TheVariants.{AtLeast, Common, Complement, Except, Odd, Union}
+use Rattle.ip_commands.specs.Files.{file_names}
+use Rattle.ip_commands.specs.Request.{files_of}
 use Rattle.ip_commands.specs.declared.arguments.Arguments.{Arguments}
+use Rattle.ip_commands.specs.declared.arguments.Options.{Options}
 use Rattle.ip_commands.specs.declared.arguments.Question.{Question}
 use Rattle.ip_commands.specs.declared.arguments.Question.TheVariants as Asked
 use Rattle.ip_commands.specs.declared.fault.Fault.{Fault}
 use Rattle.ip_commands.specs.declared.fault.Fault.TheVariants.{BadLine, CommandLine, NoMemory, NotRead, NotWritten}
 use Rattle.ip_commands.specs.declared.fault.Misuse.{Misuse}
-use Rattle.ip_commands.specs.declared.fault.Misuse.TheVariants.{ExtraWord, MissingAddress, MissingFile, MissingNumber, NoAddress, NoCommand, NoNumber, NotText, UnknownCommand, UnknownOption}
+use Rattle.ip_commands.specs.declared.fault.Misuse.TheVariants.{ExtraWord, MissingAddress, MissingFile, MissingNumber, NoAddress, NoCommand, NoNumber, NotText, RepeatedInput, UnknownCommand, UnknownOption}
 use Rattle.ip_commands.specs.declared.request.Families.{Families}
 use Rattle.ip_commands.specs.declared.request.Families.TheVariants.{Both, V4, V6}
 use Rattle.ip_commands.specs.declared.request.Form.{Form}
@@ -69,10 +72,18 @@ question_asked word = if bytes_eq word (codes "-h") then Some Asked.Help
     else (if bytes_eq word (codes "--help") then Some Asked.Help
     else (if bytes_eq word (codes "--version") then Some Asked.Version else None))
 
+-- That an empty result is a failure.
+abbrev pub asks_fail_empty : List ℕ → Bool
+asks_fail_empty word = bytes_eq word (codes "--fail-empty")
+
+-- That bad lines are passed over.
+abbrev pub asks_skip_bad : List ℕ → Bool
+asks_skip_bad word = bytes_eq word (codes "--skip-bad")
+
 -- Whether an option is one that the program has.
 abbrev pub is_known : List ℕ → Bool
-is_known word = is_some (form_asked word)
-    || (is_some (families_asked word) || is_some (question_asked word))
+is_known word = is_some (form_asked word) || (is_some (families_asked word)
+    || (is_some (question_asked word) || (asks_fail_empty word || asks_skip_bad word)))
 
 -- ---- what a command line asks for. Of options about the same, the last one counts.
 
@@ -80,17 +91,19 @@ is_known word = is_some (form_asked word)
 abbrev pub first_unknown : List (List ℕ) → Option (List ℕ)
 first_unknown words = find (λ (word : List ℕ). not (is_known word)) (options_of words)
 
--- The form of the addresses: blocks, if no option says otherwise.
-abbrev pub form_of : List (List ℕ) → Form
-form_of words = unwrap_or (last_or None (filter_map form_asked (options_of words))) Blocks
+-- What options that are known ask for together: blocks and both families, if none says otherwise.
+abbrev pub asked_by : List (List ℕ) → Options
+asked_by options = record {
+  form = unwrap_or (last_or None (filter_map form_asked options)) Blocks;
+  families = unwrap_or (last_or None (filter_map families_asked options)) Both;
+  question = last_or None (filter_map question_asked options);
+  fail_empty = list_any asks_fail_empty options;
+  skip_bad = list_any asks_skip_bad options;
+}
 
--- The families of addresses: both, if no option says otherwise.
-abbrev pub families_of : List (List ℕ) → Families
-families_of words = unwrap_or (last_or None (filter_map families_asked (options_of words))) Both
-
--- The question about the program itself.
-abbrev pub question_of : List (List ℕ) → Option Question
-question_of words = last_or None (filter_map question_asked (options_of words))
+-- What the options of a command line ask for.
+abbrev pub options_asked : List (List ℕ) → Options
+options_asked words = asked_by (options_of words)
 
 -- ---- what operands ask for
 
@@ -126,21 +139,23 @@ IsOperation operands (AtLeast count) files =
     (word : List ℕ) × (operands ≡ codes "at-least" ∷ word ∷ files) × IsNumberOf word count
 IsOperation operands Complement files = operands ≡ codes "complement" ∷ files
 
-module _ (form : Form) (families : Families) (operands : List (List ℕ)) where
-  -- Whether the operands ask for this, in this form and of these families. Each command needs a
-  -- file.
+module _ (options : Options) (operands : List (List ℕ)) where
+  -- Whether the operands ask for this, beside what the options ask for. Each command needs a file.
   abbrev pub IsRequestWith : Request → Type 0
   IsRequestWith Help = ⊥
   IsRequestWith Version = ⊥
-  IsRequestWith (Combine it) = (it.form ≡ form) × (it.families ≡ families)
-      × IsOperation operands it.operation (map (λ name. name.now) it.files.now)
-      × (1 ≤ length it.files.now)
-  IsRequestWith (Count which files) = (which ≡ families)
-      × (operands ≡ codes "count" ∷ map (λ name. name.now) files.now) × (1 ≤ length files.now)
-  IsRequestWith (Has address files) = (word : List ℕ)
-      × (operands ≡ codes "has" ∷ word ∷ map (λ name. name.now) files.now)
-      × IsIpText word address × (1 ≤ length files.now)
-  IsRequestWith (Compare diff) = (diff.form ≡ form) × (diff.families ≡ families)
+  IsRequestWith (Combine it) = (it.form ≡ options.form) × (it.families ≡ options.families)
+      × (it.fail_empty ≡ options.fail_empty) × (it.sources.skip_bad ≡ options.skip_bad)
+      × IsOperation operands it.operation (file_names it.sources)
+      × (1 ≤ length it.sources.files.now)
+  IsRequestWith (Count families sources) = (families ≡ options.families)
+      × (sources.skip_bad ≡ options.skip_bad) × (operands ≡ codes "count" ∷ file_names sources)
+      × (1 ≤ length sources.files.now)
+  IsRequestWith (Has address sources) = (word : List ℕ)
+      × (operands ≡ codes "has" ∷ word ∷ file_names sources) × IsIpText word address
+      × (1 ≤ length sources.files.now) × (sources.skip_bad ≡ options.skip_bad)
+  IsRequestWith (Compare diff) = (diff.form ≡ options.form) × (diff.families ≡ options.families)
+      × (diff.skip_bad ≡ options.skip_bad)
       × (operands ≡ codes "diff" ∷ diff.old.now ∷ diff.new.now ∷ [])
   IsRequestWith (Check files) =
       (operands ≡ codes "check" ∷ map (λ name. name.now) files.now) × (1 ≤ length files.now)
@@ -164,7 +179,34 @@ IsMisuseOfOperands operands MissingFile = (command : List ℕ) × (others : List
     × IsSomeAnd (words_needed command) (λ needed. length others < needed)
 IsMisuseOfOperands operands MissingNumber = operands ≡ codes "at-least" ∷ []
 IsMisuseOfOperands operands MissingAddress = operands ≡ codes "has" ∷ []
+IsMisuseOfOperands operands RepeatedInput = ⊥
 IsMisuseOfOperands operands NotText = ⊥
+
+-- Whether a file is standard input.
+abbrev pub is_input : List ℕ → Bool
+is_input file = bytes_eq file (codes "-")
+
+-- Whether standard input is among the files more than once.
+abbrev pub repeats_input : List (List ℕ) → Bool
+repeats_input files = nat_lt 1 (count_by is_input files)
+
+module _ (options : Options) (operands : List (List ℕ)) where
+  -- Whether the operands ask for this, and name standard input at most once.
+  pub record IsCommand (request : Request) : Type 0 where
+    pub asked : IsRequestWith options operands request
+    pub one_input : IsFalse (repeats_input (files_of request))
+
+  -- Whether the operands ask for something that reads standard input more than once.
+  pub record RepeatsInput : Type 0 where
+    pub request : Request
+    pub asked : IsRequestWith options operands request
+    pub repeats : IsTrue (repeats_input (files_of request))
+
+  -- Whether this is the first thing that is wrong with the operands. That they name standard input
+  -- more than once comes last.
+  abbrev pub IsMisuseOfCommand : Misuse → Type 0
+  IsMisuseOfCommand RepeatedInput = RepeatsInput
+  IsMisuseOfCommand misuse = IsMisuseOfOperands operands misuse
 
 -- ---- what words ask for
 
@@ -173,18 +215,19 @@ IsMisuseOfOperands operands NotText = ⊥
 abbrev pub Asks : Option Question → List (List ℕ) → Request → Type 0
 Asks (Some Asked.Help) words request = request ≡ Help
 Asks (Some Asked.Version) words request = request ≡ Version
-Asks None words request =
-    IsRequestWith (form_of words) (families_of words) (operands_of words) request
+Asks None words request = IsCommand (options_asked words) (operands_of words) request
 
 -- Whether the words ask for this.
 abbrev pub IsRequest : List (List ℕ) → Request → Type 0
-IsRequest words request = (first_unknown words ≡ None) × Asks (question_of words) words request
+IsRequest words request =
+    (first_unknown words ≡ None) × Asks (options_asked words).question words request
 
 -- Whether this is the first thing that is wrong with the words, where options count first.
 abbrev pub IsMisuse : List (List ℕ) → Misuse → Type 0
 IsMisuse words (UnknownOption word) = first_unknown words ≡ Some word.now
-IsMisuse words misuse = (first_unknown words ≡ None) × (question_of words ≡ None)
-    × IsMisuseOfOperands (operands_of words) misuse
+IsMisuse words misuse = (first_unknown words ≡ None)
+    × ((options_asked words).question ≡ None)
+    × IsMisuseOfCommand (options_asked words) (operands_of words) misuse
 
 -- ---- arguments
 
@@ -192,9 +235,7 @@ IsMisuse words misuse = (first_unknown words ≡ None) × (question_of words ≡
 pub record AreArguments {A : Type 0} (words : List (List ℕ)) (arguments : Arguments A) : Type 0
   where
     pub known : first_unknown words ≡ None
-    pub form : arguments.options.form ≡ form_of words
-    pub families : arguments.options.families ≡ families_of words
-    pub question : arguments.options.question ≡ question_of words
+    pub options : arguments.options ≡ options_asked words
     pub operands : map (λ word. word.now) arguments.operands.items ≡ operands_of words
     pub ended : arguments.is_ended ≡ list_any is_mark words
 

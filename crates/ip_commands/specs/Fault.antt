@@ -1,15 +1,15 @@
 -- Faults as lines and as exit statuses.
-use Rattle.std.specs.Prelude.{ℕ, ◌==◌, Bool, false, IsTrue, List, ◌++◌, Option, Some, None, Result, Ok, Err, codes}
+use Rattle.std.specs.Prelude.{ℕ, ◌==◌, Bool, false, IsTrue, List, [], ◌∷◌, ◌++◌, Option, Some, None, Result, Ok, Err, codes}
 use Rattle.std.specs.IoError.{error_kind}
 use Rattle.std.specs.declared.io.ErrorKind.{ErrorKind}
 use Rattle.std.specs.declared.io.ErrorKind.TheVariants.{BrokenPipe}
 use Rattle.ip_sets.specs.List.{bad_line_text}
 use Rattle.ip_commands.specs.declared.commands.Outcome.{Outcome}
-use Rattle.ip_commands.specs.declared.commands.Outcome.TheVariants.{BadLines, Differs, Done, InNone}
+use Rattle.ip_commands.specs.declared.commands.Outcome.TheVariants.{BadLines, Differs, Done, Empty, InNone}
 use Rattle.ip_commands.specs.declared.fault.Fault.{Fault}
 use Rattle.ip_commands.specs.declared.fault.Fault.TheVariants.{BadLine, CommandLine, NoMemory, NotRead, NotWritten}
 use Rattle.ip_commands.specs.declared.fault.Misuse.{Misuse}
-use Rattle.ip_commands.specs.declared.fault.Misuse.TheVariants.{ExtraWord, MissingAddress, MissingFile, MissingNumber, NoAddress, NoCommand, NoNumber, NotText, UnknownCommand, UnknownOption}
+use Rattle.ip_commands.specs.declared.fault.Misuse.TheVariants.{ExtraWord, MissingAddress, MissingFile, MissingNumber, NoAddress, NoCommand, NoNumber, NotText, RepeatedInput, UnknownCommand, UnknownOption}
 
 -- What is wrong with a command line, in words.
 abbrev pub misuse_text : Misuse → List ℕ
@@ -22,6 +22,7 @@ misuse_text (ExtraWord word) = codes "a word too many: " ++ word.now
 misuse_text MissingFile = codes "missing FILE after the command"
 misuse_text MissingNumber = codes "missing K and FILE after the command"
 misuse_text MissingAddress = codes "missing ADDRESS and FILE after the command"
+misuse_text RepeatedInput = codes "standard input (-) more than once"
 misuse_text NotText = codes "an argument is not UTF-8"
 
 -- The line that reports a fault, without its line feed. The system's words for a failed read or
@@ -61,8 +62,14 @@ IsQuiet (Err fault) = IsTrue (is_silent fault)
 abbrev pub outcome_status : Outcome → ℕ
 outcome_status Done = 0
 outcome_status InNone = 1
+outcome_status Empty = 1
 outcome_status Differs = 1
 outcome_status BadLines = 2
+
+-- How a run ends that had this outcome, and these reports of bad lines.
+abbrev pub outcome_past : List ℕ → Outcome → Outcome
+outcome_past [] outcome = outcome
+outcome_past (byte ∷ told) outcome = BadLines
 
 -- The exit status of the program.
 abbrev pub status_after : Result Outcome Fault → ℕ

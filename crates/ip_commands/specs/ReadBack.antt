@@ -1,11 +1,11 @@
 -- The answer to an operation: what it selects if it is read as a list, and what determines it.
 use Rattle.std.specs.Option.{IsSome}
-use Rattle.std.specs.Prelude.{ℕ, ◌^◌, false, All, List, Option, map}
+use Rattle.std.specs.Prelude.{ℕ, ◌^◌, false, All, List, Option}
 use Rattle.range_set_blaze.specs.Selection.{Agree, Selection}
 use Rattle.ip_sets.specs.Operation.{selected_by}
 use Rattle.ip_sets.specs.List.{IsListOf}
 use Rattle.ip_commands.specs.Answer.{v4_of, v6_of}
-use Rattle.ip_commands.specs.Files.{AreFilesOf, Selected}
+use Rattle.ip_commands.specs.Files.{AreFilesOf, Selected, file_names}
 use Rattle.ip_commands.specs.declared.request.Combination.{Combination}
 use Rattle.ip_commands.specs.declared.request.Families.{Families}
 use Rattle.ip_commands.specs.declared.request.Families.TheVariants.{Both, V4, V6}
@@ -28,7 +28,7 @@ written_v6 V6 selected number = selected number
 pub record ReadsAsCombined (bytes : List ℕ → Option (List ℕ)) (combination : Combination)
     (text : List ℕ) : Type 0 where
   pub lists : List Selected
-  pub are : AreFilesOf bytes (map (λ name. name.now) combination.files.now) lists
+  pub are : AreFilesOf bytes combination.sources.skip_bad (file_names combination.sources) lists
   pub v4 : Selection
   pub v6 : Selection
   pub reads : IsListOf text v4 v6

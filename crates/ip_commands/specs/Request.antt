@@ -1,6 +1,6 @@
 -- What a request names, and its first fault.
-use Rattle.std.specs.Prelude.{ℕ, List, [], ◌∷◌, Option, map}
-use Rattle.ip_commands.specs.Files.{IsCheckFault, IsFirstFault}
+use Rattle.std.specs.Prelude.{ℕ, Bool, false, List, [], ◌∷◌, Option, map}
+use Rattle.ip_commands.specs.Files.{IsCheckFault, IsFirstFault, file_names}
 use Rattle.ip_commands.specs.declared.fault.Fault.{Fault}
 use Rattle.ip_commands.specs.declared.request.Diff.{Diff}
 use Rattle.ip_commands.specs.declared.request.Request.{Request}
@@ -14,14 +14,24 @@ diff_files diff = diff.old.now ∷ diff.new.now ∷ []
 abbrev pub files_of : Request → List (List ℕ)
 files_of Help = []
 files_of Version = []
-files_of (Combine it) = map (λ name. name.now) it.files.now
-files_of (Count families files) = map (λ name. name.now) files.now
-files_of (Has address files) = map (λ name. name.now) files.now
+files_of (Combine it) = file_names it.sources
+files_of (Count families sources) = file_names sources
+files_of (Has address sources) = file_names sources
 files_of (Compare diff) = diff_files diff
 files_of (Check files) = map (λ name. name.now) files.now
+
+-- Whether a request passes over bad lines, and so has to report them. `check` has them as its answer.
+abbrev pub skips_bad : Request → Bool
+skips_bad Help = false
+skips_bad Version = false
+skips_bad (Combine it) = it.sources.skip_bad
+skips_bad (Count families sources) = sources.skip_bad
+skips_bad (Has address sources) = sources.skip_bad
+skips_bad (Compare diff) = diff.skip_bad
+skips_bad (Check files) = false
 
 -- Whether the fault is the first one of a request. `check` reads on past bad lines. `bytes` are those
 -- of the file with a name, if they are known.
 abbrev pub IsFirstFaultOf : (List ℕ → Option (List ℕ)) → Request → Fault → Type 0
 IsFirstFaultOf bytes (Check files) fault = IsCheckFault (files_of (Check files)) fault
-IsFirstFaultOf bytes request fault = IsFirstFault bytes (files_of request) fault
+IsFirstFaultOf bytes request fault = IsFirstFault bytes (skips_bad request) (files_of request) fault

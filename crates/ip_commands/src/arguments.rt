@@ -7,6 +7,7 @@ ghost use Rattle.std.specs.Prelude.{
   [],
   ◌∷◌,
   ◌++◌,
+  ◌||◌,
   IfErr,
   IfOk,
   IsFalse,
@@ -21,21 +22,27 @@ ghost use Rattle.std.specs.Prelude.{
 ghost use Rattle.std.specs.Option.{option_or};
 ghost use Rattle.ip_commands.specs.CommandLine.{
   AreArguments,
+  IsCommand,
   IsMisuse,
-  IsRequest,
+  IsMisuseOfCommand,
   IsMisuseOfOperands,
   IsOperation,
+  IsRequest,
   IsRequestWith,
   IsWordFault,
+  asks_fail_empty,
+  asks_skip_bad,
   families_asked,
   form_asked,
   is_dashed,
   is_known,
   question_asked,
+  repeats_input,
 };
+ghost use Rattle.ip_commands.specs.Request.{files_of};
 
 use crate::fault::{Fault, Misuse};
-use crate::request::{Combination, Diff, Families, Form, Request};
+use crate::request::{Combination, Diff, Families, Form, Request, Sources};
 use ip_sets::Operation;
 use std::alloc::Allocator;
 use std::convert::AsStr;
@@ -57,6 +64,10 @@ struct Options {
     form: Form,
     families: Families,
     question: Option<Question>,
+    // Whether an empty result is a failure.
+    fail_empty: bool,
+    // Whether bad lines are passed over.
+    skip_bad: bool,
 }
 
 // What is asked about the program itself.
@@ -83,6 +94,8 @@ impl<'a, A: Allocator> Arguments<'a, A> {
                 form: Form::Blocks,
                 families: Families::Both,
                 question: None,
+                fail_empty: false,
+                skip_bad: false,
             },
             is_ended: false,
         };
@@ -120,7 +133,7 @@ impl<'a, A: Allocator> Arguments<'a, A> {
         match self.options.question {
             Some(Question::Help) => Ok(Request::Help),
             Some(Question::Version) => Ok(Request::Version),
-            None => request_of(self.options, &self.operands),
+            None => command_of(self.options, &self.operands),
         }
     }
 }
@@ -139,6 +152,10 @@ fn with_option<'a>(options: Options, word: &'a str) -> Result<Options, Misuse<'a
         new.families ≡ unwrap_or (families_asked word.now) options.families) }
     ensures question { IfOk result (λ new.
         new.question ≡ option_or (question_asked word.now) options.question) }
+    ensures fail_empty { IfOk result (λ new.
+        new.fail_empty ≡ (options.fail_empty || asks_fail_empty word.now)) }
+    ensures skip_bad { IfOk result (λ new.
+        new.skip_bad ≡ (options.skip_bad || asks_skip_bad word.now)) }
     ensures known { IfOk result (λ new. IsTrue (is_known word.now)) }
     ensures unknown { IfErr result (λ misuse. IsFalse (is_known word.now)
         × (misuse ≡ Misuse.UnknownOption word.entry)) }
@@ -152,15 +169,52 @@ fn with_option<'a>(options: Options, word: &'a str) -> Result<Options, Misuse<'a
         "-h" => options.question = Some(Question::Help),
         "--help" => options.question = Some(Question::Help),
         "--version" => options.question = Some(Question::Version),
+        "--fail-empty" => options.fail_empty = true,
+        "--skip-bad" => options.skip_bad = true,
         _ => return Err(Misuse::UnknownOption(word)),
     }
     Ok(options)
 }
 
-// Returns what a command and the words after it ask for.
+// Returns what a command and the words after it ask for. Standard input can be read only once.
+fn command_of<'a>(options: Options, operands: &'a [&'a str]) -> Result<Request<'a>, Misuse<'a>>
+    ensures { MatchResult result
+        (IsCommand options (map (λ word. word.now) operands.now))
+        (IsMisuseOfCommand options (map (λ word. word.now) operands.now)) }
+{
+    let request = request_of(options, operands)?;
+    if rereads_input(request) {
+        return Err(Misuse::RepeatedInput);
+    }
+    Ok(request)
+}
+
+// Returns whether a request reads standard input more than once.
+fn rereads_input(request: Request<'_>) -> bool
+    ensures { result ≡ repeats_input (files_of request.entry) }
+{
+    match request {
+        Request::Help => false,
+        Request::Version => false,
+        Request::Combine(combination) => repeats_input(combination.sources.files),
+        Request::Count { sources, .. } => repeats_input(sources.files),
+        Request::Has { sources, .. } => repeats_input(sources.files),
+        Request::Diff(diff) => repeats_input(&[diff.old, diff.new]),
+        Request::Check { files } => repeats_input(files),
+    }
+}
+
+// Returns whether standard input is among the files more than once.
+fn repeats_input(files: &[&str]) -> bool
+    ensures { result ≡ repeats_input (map (λ name. name.now) files.now) }
+{
+    files.iter().filter(|file| **file == "-").count() > 1
+}
+
+// Returns what a command and the words after it ask for, however often it reads standard input.
 fn request_of<'a>(options: Options, operands: &'a [&'a str]) -> Result<Request<'a>, Misuse<'a>>
     ensures { MatchResult result
-        (IsRequestWith options.form options.families (map (λ word. word.now) operands.now))
+        (IsRequestWith options (map (λ word. word.now) operands.now))
         (IsMisuseOfOperands (map (λ word. word.now) operands.now)) }
 {
     let [command, words @ ..] = operands else {
@@ -189,7 +243,7 @@ fn combination<'a>(
 ) -> Result<Request<'a>, Misuse<'a>>
     ensures request { (operands : List (List ℕ))
         → IsOperation operands operation (map (λ name. name.now) files.now)
-        → IfOk result (IsRequestWith options.form options.families operands) }
+        → IfOk result (IsRequestWith options operands) }
     ensures misuse { IfErr result (λ misuse. (misuse ≡ Misuse.MissingFile)
         × (files.now ≡ [])) }
 {
@@ -200,13 +254,17 @@ fn combination<'a>(
         operation,
         form: options.form,
         families: options.families,
-        files,
+        fail_empty: options.fail_empty,
+        sources: Sources {
+            files,
+            skip_bad: options.skip_bad,
+        },
     }))
 }
 
 // Returns what `except` and the words after it ask for.
 fn except<'a>(options: Options, files: &'a [&'a str]) -> Result<Request<'a>, Misuse<'a>>
-    ensures request { IfOk result (IsRequestWith options.form options.families
+    ensures request { IfOk result (IsRequestWith options
         (codes "except" ∷ map (λ name. name.now) files.now)) }
     ensures misuse { IfErr result (IsMisuseOfOperands
         (codes "except" ∷ map (λ name. name.now) files.now)) }
@@ -219,7 +277,7 @@ fn except<'a>(options: Options, files: &'a [&'a str]) -> Result<Request<'a>, Mis
 
 // Returns what `at-least` and the words after it ask for.
 fn at_least<'a>(options: Options, words: &'a [&'a str]) -> Result<Request<'a>, Misuse<'a>>
-    ensures request { IfOk result (IsRequestWith options.form options.families
+    ensures request { IfOk result (IsRequestWith options
         (codes "at-least" ∷ map (λ word. word.now) words.now)) }
     ensures misuse { IfErr result (IsMisuseOfOperands
         (codes "at-least" ∷ map (λ word. word.now) words.now)) }
@@ -238,7 +296,7 @@ fn at_least<'a>(options: Options, words: &'a [&'a str]) -> Result<Request<'a>, M
 
 // Returns what `count` and the words after it ask for.
 fn count<'a>(options: Options, files: &'a [&'a str]) -> Result<Request<'a>, Misuse<'a>>
-    ensures request { IfOk result (IsRequestWith options.form options.families
+    ensures request { IfOk result (IsRequestWith options
         (codes "count" ∷ map (λ name. name.now) files.now)) }
     ensures misuse { IfErr result (IsMisuseOfOperands
         (codes "count" ∷ map (λ name. name.now) files.now)) }
@@ -248,13 +306,16 @@ fn count<'a>(options: Options, files: &'a [&'a str]) -> Result<Request<'a>, Misu
     }
     Ok(Request::Count {
         families: options.families,
-        files,
+        sources: Sources {
+            files,
+            skip_bad: options.skip_bad,
+        },
     })
 }
 
 // Returns what `has` and the words after it ask for.
 fn has<'a>(options: Options, words: &'a [&'a str]) -> Result<Request<'a>, Misuse<'a>>
-    ensures request { IfOk result (IsRequestWith options.form options.families
+    ensures request { IfOk result (IsRequestWith options
         (codes "has" ∷ map (λ word. word.now) words.now)) }
     ensures misuse { IfErr result (IsMisuseOfOperands
         (codes "has" ∷ map (λ word. word.now) words.now)) }
@@ -266,14 +327,20 @@ fn has<'a>(options: Options, words: &'a [&'a str]) -> Result<Request<'a>, Misuse
         return Err(Misuse::MissingFile);
     }
     match text.parse::<IpAddr>() {
-        Ok(address) => Ok(Request::Has { address, files }),
+        Ok(address) => Ok(Request::Has {
+            address,
+            sources: Sources {
+                files,
+                skip_bad: options.skip_bad,
+            },
+        }),
         Err(_) => Err(Misuse::NoAddress(*text)),
     }
 }
 
 // Returns what `check` and the words after it ask for.
 fn check<'a>(options: Options, files: &'a [&'a str]) -> Result<Request<'a>, Misuse<'a>>
-    ensures request { IfOk result (IsRequestWith options.form options.families
+    ensures request { IfOk result (IsRequestWith options
         (codes "check" ∷ map (λ name. name.now) files.now)) }
     ensures misuse { IfErr result (IsMisuseOfOperands
         (codes "check" ∷ map (λ name. name.now) files.now)) }
@@ -286,7 +353,7 @@ fn check<'a>(options: Options, files: &'a [&'a str]) -> Result<Request<'a>, Misu
 
 // Returns what `diff` and the words after it ask for.
 fn diff<'a>(options: Options, words: &'a [&'a str]) -> Result<Request<'a>, Misuse<'a>>
-    ensures request { IfOk result (IsRequestWith options.form options.families
+    ensures request { IfOk result (IsRequestWith options
         (codes "diff" ∷ map (λ word. word.now) words.now)) }
     ensures misuse { IfErr result (IsMisuseOfOperands
         (codes "diff" ∷ map (λ word. word.now) words.now)) }
@@ -302,5 +369,6 @@ fn diff<'a>(options: Options, words: &'a [&'a str]) -> Result<Request<'a>, Misus
         families: options.families,
         old: *old,
         new: *new,
+        skip_bad: options.skip_bad,
     }))
 }

@@ -1,11 +1,11 @@
 //! The commands. Each reads all of its lists, and then writes its answer.
 
-ghost use Rattle.std.specs.Prelude.{◌≡◌, IfErr, IfOk, OnOk};
+ghost use Rattle.std.specs.Prelude.{◌≡◌, IfErr, IfOk, IsFalse, OnOk};
 ghost use Rattle.std.specs.Io.KnownBytes.{Appends};
 ghost use Rattle.ip_commands.specs.Answer.{Answers};
-ghost use Rattle.ip_commands.specs.Fault.{outcome_status};
-ghost use Rattle.ip_commands.specs.Files.{KeepsUnlessWriting};
-ghost use Rattle.ip_commands.specs.Request.{IsFirstFaultOf};
+ghost use Rattle.ip_commands.specs.Fault.{outcome_past, outcome_status};
+ghost use Rattle.ip_commands.specs.Files.{AddsReports, KeepsUnlessWriting};
+ghost use Rattle.ip_commands.specs.Request.{IsFirstFaultOf, files_of, skips_bad};
 
 mod check;
 mod combination;
@@ -32,9 +32,11 @@ pub enum Outcome {
     Done,
     /// No list has the address.
     InNone,
+    /// The result has no address, and that is a failure.
+    Empty,
     /// The two lists differ.
     Differs,
-    /// A list has a bad line.
+    /// A list has a bad line, which was reported or passed over.
     BadLines,
 }
 
@@ -45,9 +47,19 @@ impl Outcome {
     {
         match self {
             Outcome::Done => 0,
-            Outcome::InNone | Outcome::Differs => 1,
+            Outcome::InNone | Outcome::Empty | Outcome::Differs => 1,
             Outcome::BadLines => 2,
         }
+    }
+
+    /// Returns how a run ends that had this outcome, and these reports of bad lines.
+    pub(crate) fn past(self, told: &[u8]) -> Outcome
+        ensures { result ≡ outcome_past told.now self }
+    {
+        if told.is_empty() {
+            return self;
+        }
+        Outcome::BadLines
     }
 }
 
@@ -63,21 +75,25 @@ usage: ip_lists union FILE..          addresses in at least one list
        ip_lists has ADDRESS FILE..    which lists have the address
        ip_lists diff OLD NEW          blocks to take out of OLD (-) and to put in (+)
        ip_lists check FILE..          the bad lines of the lists
-options: --blocks (the default), --ranges, -4, -6, -h, --help, --version
+options: --blocks (the default), --ranges, -4, -6, --fail-empty, --skip-bad,
+         -h, --help, --version
 ";
 
 /// The program's name and version.
 pub const VERSION: &str = "ip_lists 0.2.0\n";
 
-/// Reads all lists that a request names, in order, and then writes the answer.
+/// Reads all lists that a request names, in order, and then writes the answer. If bad lines are passed
+/// over, it adds a line for each to `told`.
 ///
 /// Returns the first fault. Nothing was written then, unless a write failed. A write comes only
-/// after all lists were read.
+/// after all lists were read. After a fault, `told` has lines for some of the bad lines that were
+/// passed over.
 pub fn run<'a, A: Allocator + Copy, I: Inputs, W: Write>(
     alloc: A,
     inputs: &I,
     request: Request<'a>,
     output: &mut W,
+    told: &mut Vec<u8, A>,
 ) -> Result<Outcome, Fault<'a>>
     ensures answers { IfOk result (λ outcome. Answers (I.bytes inputs.now) request.entry outcome
         (W.contents output.old) (W.contents output.new)) }
@@ -85,19 +101,26 @@ pub fn run<'a, A: Allocator + Copy, I: Inputs, W: Write>(
         → OnOk result (Appends (W.contents output.old) (W.contents output.new) HELP.now) }
     ensures version { request.entry ≡ Request.Version
         → OnOk result (Appends (W.contents output.old) (W.contents output.new) VERSION.now) }
+    ensures told { OnOk result (AddsReports (I.bytes inputs.now) (skips_bad request.entry)
+        (files_of request.entry) told.old.items told.new.items) }
     ensures first { IfErr result (IsFirstFaultOf (I.bytes inputs.now) request.entry) }
     ensures keeps { IfErr result (λ fault.
         KeepsUnlessWriting fault (W.contents output.old) (W.contents output.new)) }
+    ensures quiet { IsFalse (skips_bad request.entry) → told.new.items ≡ told.old.items }
 {
     match request {
         Request::Help => output.write_all(HELP.as_bytes())?,
         Request::Version => output.write_all(VERSION.as_bytes())?,
-        Request::Combine(combination) => write_combination(alloc, inputs, combination, output)?,
-        Request::Count { families, files } => write_counts(alloc, inputs, families, files, output)?,
-        Request::Has { address, files } => {
-            return write_names(alloc, inputs, address, files, output);
+        Request::Combine(combination) => {
+            return write_combination(alloc, inputs, combination, output, told);
         }
-        Request::Diff(diff) => return write_diff(alloc, inputs, diff, output),
+        Request::Count { families, sources } => {
+            write_counts(alloc, inputs, families, sources, output, told)?;
+        }
+        Request::Has { address, sources } => {
+            return write_names(alloc, inputs, address, sources, output, told);
+        }
+        Request::Diff(diff) => return write_diff(alloc, inputs, diff, output, told),
         Request::Check { files } => return write_reports(alloc, inputs, files, output),
     }
     Ok(Outcome::Done)

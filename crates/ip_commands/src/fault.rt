@@ -41,6 +41,8 @@ pub enum Misuse<'a> {
     MissingNumber,
     /// There is no word after `has`.
     MissingAddress,
+    /// Standard input is among the files more than once.
+    RepeatedInput,
     /// A word is not UTF-8.
     NotText,
 }
@@ -59,6 +61,7 @@ impl fmt::Display for Misuse<'_> {
             Misuse::MissingFile => write!(f, "missing FILE after the command"),
             Misuse::MissingNumber => write!(f, "missing K and FILE after the command"),
             Misuse::MissingAddress => write!(f, "missing ADDRESS and FILE after the command"),
+            Misuse::RepeatedInput => write!(f, "standard input (-) more than once"),
             Misuse::NotText => write!(f, "an argument is not UTF-8"),
         }
     }

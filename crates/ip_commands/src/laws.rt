@@ -1,12 +1,12 @@
 //! Laws of what is written. Each function does nothing, and its clauses are the law.
 
-ghost use Rattle.std.specs.Prelude.{◌≡◌, ℕ, ◌^◌, [], List, Option, Some, map};
+ghost use Rattle.std.specs.Prelude.{◌≡◌, ℕ, ◌^◌, [], Bool, List, Option, Some};
 ghost use Rattle.std.specs.declared.net.ip_addr.IpAddr.{IpAddr};
 ghost use Rattle.range_set_blaze.specs.Runs.{Interval, members};
 ghost use Rattle.range_set_blaze.specs.Selection.{Agree, difference, union};
 ghost use Rattle.ip_sets.specs.List.{IsListOf};
 ghost use Rattle.ip_commands.specs.Answer.{Answers, IsCombined, IsCounted, IsDiffText, IsFound};
-ghost use Rattle.ip_commands.specs.Files.{Selected};
+ghost use Rattle.ip_commands.specs.Files.{Selected, file_names};
 ghost use Rattle.ip_commands.specs.ReadBack.{AreKnown, ReadsAsCombined};
 ghost use Rattle.ip_commands.specs.Text.{IsListText};
 ghost use Rattle.ip_commands.specs.declared.commands.Outcome.{Outcome};
@@ -59,14 +59,15 @@ pub fn diff_applies()
 /// The answer to a command is determined by the bytes of the files, if these are known.
 pub fn answer_is_unique()
     ensures operation { (bytes : List ℕ → Option (List ℕ)) (combination : Combination)
-        (text other : List ℕ) → AreKnown bytes (map (λ name. name.now) combination.files.now)
+        (text other : List ℕ) → AreKnown bytes (file_names combination.sources)
         → IsCombined bytes combination text → IsCombined bytes combination other → text ≡ other }
-    ensures counts { (bytes : List ℕ → Option (List ℕ)) (families : Families)
+    ensures counts { (bytes : List ℕ → Option (List ℕ)) (families : Families) (skip_bad : Bool)
         (files : List (List ℕ)) (text other : List ℕ) → AreKnown bytes files
-        → IsCounted bytes families files text → IsCounted bytes families files other
-        → text ≡ other }
-    ensures found { (bytes : List ℕ → Option (List ℕ)) (address : IpAddr)
+        → IsCounted bytes families skip_bad files text
+        → IsCounted bytes families skip_bad files other → text ≡ other }
+    ensures found { (bytes : List ℕ → Option (List ℕ)) (address : IpAddr) (skip_bad : Bool)
         (files : List (List ℕ)) (outcome ending : Outcome) (text other : List ℕ)
-        → AreKnown bytes files → IsFound bytes address files outcome text
-        → IsFound bytes address files ending other → (outcome ≡ ending) × (text ≡ other) }
+        → AreKnown bytes files → IsFound bytes address skip_bad files outcome text
+        → IsFound bytes address skip_bad files ending other
+        → (outcome ≡ ending) × (text ≡ other) }
 {}

@@ -23,5 +23,5 @@ pub use crate::laws::{
 };
 pub use crate::process::start_from_env;
 pub use crate::program::{finish, start};
-pub use crate::request::{Combination, Diff, Families, Form, Request};
+pub use crate::request::{Combination, Diff, Families, Form, Request, Sources};
 pub use crate::system::{Source, SystemInputs};

@@ -1,6 +1,6 @@
 //! The program with the arguments of its process.
 
-ghost use Rattle.std.specs.Prelude.{◌≡◌, ◌≢◌, IfErr, Result};
+ghost use Rattle.std.specs.Prelude.{◌≡◌, ◌≢◌, ℕ, [], IfErr, List, Result};
 ghost use Rattle.std.specs.Io.KnownBytes.{Keeps};
 ghost use Rattle.std.specs.Process.{exit_status};
 ghost use Rattle.std.specs.IoError.{error_kind};
@@ -19,7 +19,8 @@ use std::io::{self, ErrorKind, Write};
 use std::process::ExitCode;
 
 /// Runs the program on the arguments of its process, and returns its exit status. It writes a line
-/// for a fault to `errors`. An argument that is not UTF-8 is a wrong command line.
+/// for each bad line that is passed over, and for a fault, to `errors`. An argument that is not UTF-8
+/// is a wrong command line.
 pub fn start_from_env<R: Env + Alloc, I: Inputs, W: Write, E: Write>(
     rt: &R,
     inputs: &I,
@@ -28,10 +29,11 @@ pub fn start_from_env<R: Env + Alloc, I: Inputs, W: Write, E: Write>(
 ) -> ExitCode
 where
     R::A: Copy,
-    ensures ends { (end : Result Outcome Fault)
-        × EndsOnSomeWords (I.bytes inputs.now) (W.contents output.old) (W.contents output.new) end
+    ensures ends { (end : Result Outcome Fault) × (told : List ℕ)
+        × EndsOnSomeWords (I.bytes inputs.now) told (W.contents output.old)
+        (W.contents output.new) end
         × (exit_status result ≡ status_after end)
-        × (IsQuiet end → Keeps (E.contents errors.old) (E.contents errors.new)) }
+        × (told ≡ [] → IsQuiet end → Keeps (E.contents errors.old) (E.contents errors.new)) }
 {
     match words_of(rt) {
         Ok(words) => start(rt.alloc(), &words, inputs, output, errors),

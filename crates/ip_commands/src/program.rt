@@ -1,6 +1,6 @@
 //! The program, from its command line and inputs to its output and exit status.
 
-ghost use Rattle.std.specs.Prelude.{◌≡◌, ℕ, List, Result, map};
+ghost use Rattle.std.specs.Prelude.{◌≡◌, ℕ, [], List, Result, map};
 ghost use Rattle.std.specs.Io.KnownBytes.{Keeps};
 ghost use Rattle.std.specs.Process.{exit_status};
 ghost use Rattle.ip_commands.specs.CommandLine.{AreArguments};
@@ -19,7 +19,7 @@ use std::io::Write;
 use std::process::ExitCode;
 
 /// Runs the program on the words after its name, and returns its exit status. It writes a line for
-/// a fault to `errors`.
+/// each bad line that is passed over, and for a fault, to `errors`.
 pub fn start<A: Allocator + Copy, S: AsStr, I: Inputs, W: Write, E: Write>(
     alloc: A,
     words: &[S],
@@ -27,32 +27,49 @@ pub fn start<A: Allocator + Copy, S: AsStr, I: Inputs, W: Write, E: Write>(
     output: &mut W,
     errors: &mut E,
 ) -> ExitCode
-    ensures ends { (end : Result Outcome Fault)
-        × Ends (I.bytes inputs.now) (map S.text words.now) (W.contents output.old)
+    ensures ends { (end : Result Outcome Fault) × (told : List ℕ)
+        × Ends (I.bytes inputs.now) (map S.text words.now) told (W.contents output.old)
         (W.contents output.new) end
         × (exit_status result ≡ status_after end)
-        × (IsQuiet end → Keeps (E.contents errors.old) (E.contents errors.new)) }
+        × (told ≡ [] → IsQuiet end → Keeps (E.contents errors.old) (E.contents errors.new)) }
 {
     match Arguments::new(alloc, words) {
-        Ok(arguments) => finish(errors, answer(alloc, &arguments, inputs, output)),
+        Ok(arguments) => {
+            let mut told = Vec::new(alloc);
+            let end = answer(alloc, &arguments, inputs, output, &mut told);
+            tell(errors, &told);
+            finish(errors, end)
+        }
         Err(fault) => finish(errors, Err(fault)),
     }
 }
 
-// Runs what the arguments ask for.
+// Writes the reports of bad lines that were passed over. If they cannot be written in full, there is
+// nowhere left to report it.
+fn tell<E: Write>(errors: &mut E, told: &[u8])
+    ensures { told.now ≡ [] → Keeps (E.contents errors.old) (E.contents errors.new) }
+{
+    if !told.is_empty() {
+        let _ = errors.write_all(told);
+    }
+}
+
+// Runs what the arguments ask for. Adds a line for each bad line that is passed over to `told`.
 fn answer<'s, 'a, A: Allocator + Copy, I: Inputs, W: Write>(
     alloc: A,
     arguments: &'s Arguments<'a, A>,
     inputs: &I,
     output: &mut W,
+    told: &mut Vec<u8, A>,
 ) -> Result<Outcome, Fault<'s>>
     ensures { (words : List (List ℕ)) → AreArguments words arguments.now
-        → Ends (I.bytes inputs.now) words (W.contents output.old) (W.contents output.new) result }
+        → told.old.items ≡ [] → Ends (I.bytes inputs.now) words told.new.items
+        (W.contents output.old) (W.contents output.new) result }
 {
     let request = arguments.request()?;
-    let outcome = run(alloc, inputs, request, output)?;
+    let outcome = run(alloc, inputs, request, output, told)?;
     output.flush()?;
-    Ok(outcome)
+    Ok(outcome.past(told))
 }
 
 /// Returns the exit status of an outcome, and writes a line for a fault, unless the reader of the

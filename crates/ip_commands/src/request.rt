@@ -23,8 +23,16 @@ pub enum Families {
     V6,
 }
 
-/// What an operation selects from the lists of some files. The files are names, and `-` is standard
-/// input.
+/// The files that lists are read from.
+#[derive(Clone, Copy, Debug)]
+pub struct Sources<'a> {
+    /// Their names. `-` is standard input.
+    pub files: &'a [&'a str],
+    /// Whether bad lines are passed over.
+    pub skip_bad: bool,
+}
+
+/// What an operation selects from the lists of some files.
 #[derive(Clone, Copy, Debug)]
 pub struct Combination<'a> {
     /// The operation.
@@ -33,8 +41,10 @@ pub struct Combination<'a> {
     pub form: Form,
     /// Which of them are written.
     pub families: Families,
-    /// The names of the files.
-    pub files: &'a [&'a str],
+    /// Whether it is a failure if there are none.
+    pub fail_empty: bool,
+    /// The files.
+    pub sources: Sources<'a>,
 }
 
 /// What differs between the lists of two files.
@@ -48,6 +58,8 @@ pub struct Diff<'a> {
     pub old: &'a str,
     /// The name of the file with the new list.
     pub new: &'a str,
+    /// Whether bad lines are passed over.
+    pub skip_bad: bool,
 }
 
 /// What a command line asks for.
@@ -62,12 +74,12 @@ pub enum Request<'a> {
     /// How many addresses and blocks of each family are in at least one list.
     Count {
         families: Families,
-        files: &'a [&'a str],
+        sources: Sources<'a>,
     },
     /// Which lists have an address.
     Has {
         address: IpAddr,
-        files: &'a [&'a str],
+        sources: Sources<'a>,
     },
     /// What differs between two lists.
     Diff(Diff<'a>),

@@ -1,13 +1,14 @@
 //! Lists of addresses as text.
 
-ghost use Rattle.std.specs.Prelude.{◌≡◌, ℕ, ◌+◌, ◌^◌, ◌≤◌, ◌++◌, [], ◌∷◌, List, OnOk, length};
+ghost use Rattle.std.specs.Prelude.{◌≡◌, ℕ, ◌+◌, ◌^◌, ◌≤◌, ◌++◌, [], ◌∷◌, IfOk, List, OnOk, length};
 ghost use Rattle.std.specs.Io.KnownBytes.{Appends};
 ghost use Rattle.std.specs.Range.{range_inclusive_start, range_inclusive_end};
 ghost use Rattle.range_set_blaze.specs.Runs.{AreRuns, Interval};
 ghost use Rattle.range_set_blaze.specs.Selection.{Selection};
 ghost use Rattle.rsb_streams.specs.Stream.{◌⊆◌};
 ghost use Rattle.ip_sets.specs.Address.{v4_text, v6_text};
-ghost use Rattle.ip_commands.specs.Page.{Lays};
+ghost use Rattle.ip_sets.specs.List.{has_bytes};
+ghost use Rattle.ip_commands.specs.Page.{Lays, LeavesSome};
 ghost use Rattle.ip_commands.specs.Selection.{WritesSelected};
 ghost use Rattle.ip_commands.specs.Text.{IsSignedSet, block_line, range_line};
 
@@ -60,50 +61,55 @@ pub(crate) struct Style<'a> {
 }
 
 /// Writes the addresses of two ready streams in a style: IPv4 and then IPv6, ascending, with a block
-/// or a range on each line. It does not allocate, unless the writer or a stream does. If a write
-/// fails, part of the text may have been written.
+/// or a range on each line. Returns whether there is a line. It does not allocate, unless the writer
+/// or a stream does. If a write fails, part of the text may have been written.
 pub(crate) fn write_streams<'a, W: Write, F: DrawDisjoint<u32>, S: DrawDisjoint<u128>>(
     output: &mut W,
     v4: F,
     v6: S,
     style: Style<'a>,
-) -> io::Result<()>
+) -> io::Result<bool>
     requires v4 { F.can_draw v4 }
     requires v6 { S.can_draw v6 }
     requires sign { length style.sign.now ≤ 1 }
     ensures { (these those : Selection) → F.may_give v4 ⊆ AreRuns (2 ^ 32) these
         → S.may_give v6 ⊆ AreRuns (2 ^ 128) those
-        → OnOk result (WritesSelected style.entry.sign.now style.entry.form style.entry.families
-        these those (W.contents output.old) (W.contents output.new)) }
+        → IfOk result (λ some. WritesSelected some style.entry.sign.now style.entry.form
+        style.entry.families these those (W.contents output.old) (W.contents output.new)) }
 {
     let sign = style.sign;
     let form = style.form;
     match style.families {
         Families::Both => {
-            write_ranges(output, v4, sign, form)?;
-            write_ranges(output, v6, sign, form)
+            let has_v4 = write_ranges(output, v4, sign, form)?;
+            let has_v6 = write_ranges(output, v6, sign, form)?;
+            Ok(has_v4 || has_v6)
         }
         Families::V4 => write_ranges(output, v4, sign, form),
         Families::V6 => write_ranges(output, v6, sign, form),
     }
 }
 
-// Writes the addresses of a ready stream in a form.
+// Writes the addresses of a ready stream in a form. Returns whether there is a line.
 fn write_ranges<T: AddressText, W: Write, I: DrawDisjoint<T>>(
     output: &mut W,
     ranges: I,
     sign: &[u8],
     form: Form,
-) -> io::Result<()>
+) -> io::Result<bool>
     requires ready { I.can_draw ranges }
     requires sign { length sign.now ≤ 1 }
-    ensures { OnOk result ((runs : List Interval) × I.may_give ranges runs × ((text : List ℕ)
+    ensures { IfOk result (λ some. (runs : List Interval) × I.may_give ranges runs
+        × ((text : List ℕ)
         × IsSignedSet sign.now T.text T.rank T.width T.value_count form runs text
-        × Appends (W.contents output.old) (W.contents output.new) text)) }
+        × Appends (W.contents output.old) (W.contents output.new) text
+        × (some ≡ has_bytes text))) }
 {
     let mut page = Page::new();
     lay_stream(output, &mut page, ranges, sign, form)?;
-    send(output, &mut page)
+    let some = !page.is_empty();
+    send(output, &mut page)?;
+    Ok(some)
 }
 
 // Adds the lines of a ready stream in a form to a page, which is written whenever it is full.
@@ -119,7 +125,7 @@ fn lay_stream<T: AddressText, W: Write, I: DrawDisjoint<T>>(
     ensures { OnOk result ((runs : List Interval) × I.may_give ranges runs × ((text : List ℕ)
         × IsSignedSet sign.now T.text T.rank T.width T.value_count form runs text
         × Lays (W.contents output.old) (W.contents output.new)
-        page.old.items page.new.items text)) }
+        page.old.items page.new.items text × LeavesSome page.new.items text)) }
 {
     match form {
         Form::Blocks => lay_blocks(output, page, ranges, sign),
@@ -139,7 +145,7 @@ fn lay_blocks<T: AddressText, W: Write, I: DrawDisjoint<T>>(
     ensures { OnOk result ((runs : List Interval) × I.may_give ranges runs × ((text : List ℕ)
         × IsSignedSet sign.now T.text T.rank T.width T.value_count Form.Blocks runs text
         × Lays (W.contents output.old) (W.contents output.new)
-        page.old.items page.new.items text)) }
+        page.old.items page.new.items text × LeavesSome page.new.items text)) }
 {
     for block in ranges.blocks() {
         make_room(output, page)?;
@@ -179,7 +185,7 @@ fn lay_ranges<T: AddressText, W: Write, I: DrawDisjoint<T>>(
     ensures { OnOk result ((runs : List Interval) × I.may_give ranges runs × ((text : List ℕ)
         × IsSignedSet sign.now T.text T.rank T.width T.value_count Form.Ranges runs text
         × Lays (W.contents output.old) (W.contents output.new)
-        page.old.items page.new.items text)) }
+        page.old.items page.new.items text × LeavesSome page.new.items text)) }
 {
     let mut ranges = ranges;
     while let Some(range) = ranges.draw() {

@@ -1,5 +1,7 @@
 -- Ranges of addresses, and the texts that write them.
-use Rattle.std.specs.Prelude.{◌≡◌, ℕ, ◌+◌, ◌-◌, ◌/◌, ◌%◌, ◌^◌, ◌≤◌, false, List, [], ◌∷◌, decimal}
+use Rattle.std.specs.Prelude.{◌≡◌, ℕ, ◌+◌, ◌-◌, ◌/◌, ◌%◌, ◌^◌, ◌≤◌, false, List, [], ◌∷◌, ◌++◌, Option, MatchBool, MatchOption, decimal}
+use Rattle.std.specs.Char.{is_ascii_digit}
+use Rattle.std.specs.List.{list_all}
 use Rattle.std.specs.Range.{range_inclusive_start, range_inclusive_end, range_inclusive_exhausted}
 use Rattle.std.specs.declared.ops.RangeInclusive.{RangeInclusive}
 use Rattle.ip_sets.specs.LineParts.{parts, trimmed}
@@ -17,6 +19,13 @@ numbers number range = record {
   end = number (range_inclusive_end range);
   exhausted = range_inclusive_exhausted range;
 }
+
+-- Whether the result is a range that the fact holds of, by the numbers of its addresses, or `None` if
+-- it holds of no range.
+abbrev pub ReadsRange : {T : Type 0} → (T → ℕ) → Option (RangeInclusive T)
+    → (RangeInclusive ℕ → Type 0) → Type 0
+ReadsRange number result Holds = MatchOption result ((range : RangeInclusive ℕ) → ¬ Holds range)
+    (λ range. Holds (numbers number range))
 
 -- How many addresses of `bits` bits have the same first `length` bits.
 abbrev pub block_size : ℕ → ℕ → ℕ
@@ -40,7 +49,11 @@ abbrev pub SharesBits : ℕ → ℕ → ℕ → ℕ → Type 0
 SharesBits bits length address other =
     other / block_size bits length ≡ address / block_size bits length
 
--- ---- the three forms
+-- The mask of a length: of `bits` bits, the first `length` are ones, and the others are zeros.
+abbrev pub mask_of : ℕ → ℕ → ℕ
+mask_of bits length = 2 ^ bits - block_size bits length
+
+-- ---- addresses and blocks
 
 -- `ADDRESS`
 pub record WritesOne (IsAddress : List ℕ → ℕ → Type 0) (text : List ℕ) (range : RangeInclusive ℕ)
@@ -49,28 +62,22 @@ pub record WritesOne (IsAddress : List ℕ → ℕ → Type 0) (text : List ℕ)
   pub written : IsAddress text address
   pub one : Spans range address address
 
--- `ADDRESS/LENGTH`, from its two parts. The length has no leading zero.
+-- Whether the text writes the length of a block: digits write it in decimal, without a leading zero,
+-- and any other text as the address that is its mask.
+abbrev pub WritesLength : ℕ → (List ℕ → ℕ → Type 0) → List ℕ → ℕ → Type 0
+WritesLength bits IsAddress text length =
+    MatchBool (list_all is_ascii_digit text) (text ≡ decimal length)
+    (IsAddress text (mask_of bits length))
+
+-- `ADDRESS/LENGTH` or `ADDRESS/MASK`, from its two parts.
 pub record WritesBlock (bits : ℕ) (IsAddress : List ℕ → ℕ → Type 0)
     (address_text length_text : List ℕ) (range : RangeInclusive ℕ) : Type 0 where
   pub address : ℕ
   pub length : ℕ
   pub address_written : IsAddress address_text address
-  pub length_written : length_text ≡ decimal length
+  pub length_written : WritesLength bits IsAddress length_text length
   pub within : length ≤ bits
   pub block : IsBlockAround bits length address range
-
--- `ADDRESS-ADDRESS`, from its two parts, with or without white space around the dash. The second
--- address is not below the first.
-pub record WritesSpan (IsAddress : List ℕ → ℕ → Type 0) (first_text last_text : List ℕ)
-    (range : RangeInclusive ℕ) : Type 0 where
-  pub first : ℕ
-  pub last : ℕ
-  pub first_written : IsAddress (trimmed first_text) first
-  pub last_written : IsAddress (trimmed last_text) last
-  pub in_order : first ≤ last
-  pub span : Spans range first last
-
--- ---- which form a text has
 
 -- Whether the parts around a slash write the range.
 abbrev pub WritesOneOrBlock : ℕ → (List ℕ → ℕ → Type 0) → List (List ℕ) → RangeInclusive ℕ → Type 0
@@ -79,12 +86,37 @@ WritesOneOrBlock bits IsAddress (address ∷ length ∷ []) range =
     WritesBlock bits IsAddress address length range
 WritesOneOrBlock bits IsAddress _ range = ⊥
 
--- Whether the parts around a dash write the range. 47 is the code of `/`.
+-- Whether the text writes the range as an address or a block. 47 is the code of `/`.
+abbrev pub WritesEnd : ℕ → (List ℕ → ℕ → Type 0) → List ℕ → RangeInclusive ℕ → Type 0
+WritesEnd bits IsAddress text range = WritesOneOrBlock bits IsAddress (parts 47 text) range
+
+-- ---- ranges
+
+-- `END-END`, from its two parts, with or without white space around the dash. Each end is an address
+-- or a block. The range goes from the first address of the first end to the last one of the second,
+-- which is not below it.
+pub record WritesSpan (bits : ℕ) (IsAddress : List ℕ → ℕ → Type 0)
+    (first_text last_text : List ℕ) (range : RangeInclusive ℕ) : Type 0 where
+  pub first : RangeInclusive ℕ
+  pub last : RangeInclusive ℕ
+  pub first_written : WritesEnd bits IsAddress (trimmed first_text) first
+  pub last_written : WritesEnd bits IsAddress (trimmed last_text) last
+  pub in_order : range_inclusive_start first ≤ range_inclusive_end last
+  pub span : Spans range (range_inclusive_start first) (range_inclusive_end last)
+
+-- Whether the parts around a dash write the range.
 abbrev pub WritesParts : ℕ → (List ℕ → ℕ → Type 0) → List (List ℕ) → RangeInclusive ℕ → Type 0
-WritesParts bits IsAddress (text ∷ []) range = WritesOneOrBlock bits IsAddress (parts 47 text) range
-WritesParts bits IsAddress (first ∷ last ∷ []) range = WritesSpan IsAddress first last range
+WritesParts bits IsAddress (text ∷ []) range = WritesEnd bits IsAddress text range
+WritesParts bits IsAddress (first ∷ last ∷ []) range = WritesSpan bits IsAddress first last range
 WritesParts bits IsAddress _ range = ⊥
 
 -- Whether the text writes the range of addresses of `bits` bits. 45 is the code of `-`.
 abbrev pub WritesRange : ℕ → (List ℕ → ℕ → Type 0) → List ℕ → RangeInclusive ℕ → Type 0
 WritesRange bits IsAddress text range = WritesParts bits IsAddress (parts 45 text) range
+
+-- `[ADDRESS]`. The codes of the brackets are 91 and 93.
+pub record WritesBracketed (IsAddress : List ℕ → ℕ → Type 0) (text : List ℕ)
+    (range : RangeInclusive ℕ) : Type 0 where
+  pub inner : List ℕ
+  pub enclosed : text ≡ 91 ∷ inner ++ 93 ∷ []
+  pub one : WritesOne IsAddress inner range

@@ -1,21 +1,22 @@
 -- What a line of a list means.
-use Rattle.std.specs.Prelude.{◌≡◌, ℕ, ◌-◌, ◌<◌, ◌==◌, ◌||◌, All, Bool, IsFalse, IsTrue, List, [], ◌∷◌, length, nat_lt, slice_index}
-use Rattle.std.specs.Char.{is_ascii_whitespace}
+use Rattle.std.specs.Prelude.{◌≡◌, ℕ, ◌-◌, ◌<◌, ◌==◌, ◌||◌, ◌⊎◌, not, All, Bool, IsFalse, IsTrue, List, [], ◌∷◌, length, slice_index}
+use Rattle.std.specs.Char.{is_ascii_hexdigit, is_ascii_whitespace}
 use Rattle.std.specs.List.{before_first}
 use Rattle.std.specs.declared.ops.RangeInclusive.{RangeInclusive}
 use Rattle.ip_sets.specs.declared.line.Line.{Line}
 use Rattle.ip_sets.specs.declared.line.Line.TheVariants.{Nothing, V4, V6}
 use Rattle.ip_sets.specs.Address.{IsV4, IsV6}
-use Rattle.ip_sets.specs.AddressRange.{Spans, WritesRange}
+use Rattle.ip_sets.specs.AddressRange.{Spans, WritesBracketed, WritesRange}
 use Rattle.ip_sets.specs.LineParts.{trimmed}
 
 -- Whether the byte is `#` or `;`, which begins a comment.
 abbrev pub begins_comment : ℕ → Bool
 begins_comment byte = (byte == 35) || (byte == 59)
 
--- Whether no address has the byte. Each byte with a meaning of its own in a line is such a byte.
+-- Whether no address has the byte: it is neither a hexadecimal digit, a dot nor a colon. Each byte
+-- with a meaning of its own in a line is such a byte.
 abbrev pub is_mark : ℕ → Bool
-is_mark byte = nat_lt byte 46 || (byte == 47) || (byte == 59)
+is_mark byte = not (is_ascii_hexdigit byte || ((byte == 46) || (byte == 58)))
 
 -- What a line has before its comment, without the white space around it. A carriage return is white
 -- space.
@@ -26,7 +27,8 @@ content line = trimmed (before_first begins_comment line)
 abbrev pub IsLine : List ℕ → Line → Type 0
 IsLine line Nothing = content line ≡ []
 IsLine line (V4 range) = WritesRange 32 IsV4 (content line) range
-IsLine line (V6 range) = WritesRange 128 IsV6 (content line) range
+IsLine line (V6 range) =
+    WritesRange 128 IsV6 (content line) range ⊎ WritesBracketed IsV6 (content line) range
 
 -- Whether a line means the IPv4 addresses from the first to the last.
 abbrev pub MeansV4 : List ℕ → ℕ → ℕ → Type 0

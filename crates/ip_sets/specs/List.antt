@@ -1,5 +1,6 @@
 -- What a list of addresses selects, line by line.
-use Rattle.std.specs.Prelude.{◌≡◌, ◌⊎◌, ◌↔◌, ℕ, ◌+◌, ◌≤◌, ◌++◌, All, Any, Bool, IsTrue, List, [], ◌∷◌, Option, Some, codes, decimal, filter, flat_map, length, map, nat_lt}
+use Rattle.std.specs.Prelude.{◌≡◌, ◌⊎◌, ◌↔◌, ℕ, ◌+◌, ◌≤◌, ◌++◌, All, Any, Bool, IsTrue, List, [], ◌∷◌, Option, Some, codes, decimal, drop, filter, flat_map, if◌then◌else◌, length, map, nat_eq, nat_lt}
+use Rattle.std.specs.List.{starts_with}
 use Rattle.std.specs.Str.Lines.{lines}
 use Rattle.range_set_blaze.specs.Selection.{Selection}
 use Rattle.ip_sets.specs.declared.line.Line.{Line}
@@ -39,12 +40,28 @@ AddsAddressesOf Means line old new = (number : ℕ)
 
 -- ---- files
 
+-- The byte order mark of UTF-8, which some programs write at the start of a text.
+abbrev pub order_mark : List ℕ
+order_mark = 239 ∷ 187 ∷ 191 ∷ []
+
+-- Whether the bytes begin with a byte order mark.
+abbrev pub has_order_mark : List ℕ → Bool
+has_order_mark bytes = starts_with nat_eq bytes order_mark
+
+-- The bytes without the byte order mark that they may begin with.
+abbrev pub without_order_mark : List ℕ → List ℕ
+without_order_mark bytes = if has_order_mark bytes then drop 3 bytes else bytes
+
+-- The lines of a list. A byte order mark at its start does not count.
+abbrev pub list_lines : List ℕ → List (List ℕ)
+list_lines bytes = lines (without_order_mark bytes)
+
 -- Whether each line of the bytes has a meaning, and together they mean exactly these IPv4 and IPv6
 -- addresses.
 pub record IsListOf (bytes : List ℕ) (v4 v6 : Selection) : Type 0 where
-  pub good : All IsGoodLine (lines bytes)
-  pub v4_addresses : AreAddressesOf MeansV4 (lines bytes) v4
-  pub v6_addresses : AreAddressesOf MeansV6 (lines bytes) v6
+  pub good : All IsGoodLine (list_lines bytes)
+  pub v4_addresses : AreAddressesOf MeansV4 (list_lines bytes) v4
+  pub v6_addresses : AreAddressesOf MeansV6 (list_lines bytes) v6
 
 -- Whether the line with this number has no meaning, and this is reported of it: its number, a reason
 -- that holds of its content, and the start of that content.
@@ -66,16 +83,16 @@ AreReportsFrom number (line ∷ list) reports =
 -- Whether these are the reports of the lines without a meaning, and the other lines together mean
 -- exactly these IPv4 and IPv6 addresses. Lines are counted from 1.
 pub record IsListPast (bytes : List ℕ) (reports : List BadLine) (v4 v6 : Selection) : Type 0 where
-  pub reported : AreReportsFrom 1 (lines bytes) reports
-  pub v4_addresses : AreAddressesOf MeansV4 (lines bytes) v4
-  pub v6_addresses : AreAddressesOf MeansV6 (lines bytes) v6
+  pub reported : AreReportsFrom 1 (list_lines bytes) reports
+  pub v4_addresses : AreAddressesOf MeansV4 (list_lines bytes) v4
+  pub v6_addresses : AreAddressesOf MeansV6 (list_lines bytes) v6
 
 -- Whether the report is that of the first line that has no meaning.
 pub record IsFirstBadLine (bytes : List ℕ) (bad : BadLine) : Type 0 where
   pub before : List (List ℕ)
   pub line : List ℕ
   pub after : List (List ℕ)
-  pub parts : lines bytes ≡ before ++ line ∷ after
+  pub parts : list_lines bytes ≡ before ++ line ∷ after
   pub report : IsReportOf bad (length before + 1) line
   pub first : All IsGoodLine before
 
@@ -115,4 +132,4 @@ has_bytes text = nat_lt 0 (length text)
 -- What each line has besides comments and the white space around it, without the lines that have
 -- nothing else.
 abbrev pub contents : List ℕ → List (List ℕ)
-contents bytes = filter has_bytes (map content (lines bytes))
+contents bytes = filter has_bytes (map content (list_lines bytes))

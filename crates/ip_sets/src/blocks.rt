@@ -18,7 +18,7 @@ ghost use Rattle.ip_sets.specs.BlocksLeft.{
 mod address;
 mod block;
 mod laws;
-mod numbers;
+pub(crate) mod numbers;
 mod span;
 
 pub use address::Address;

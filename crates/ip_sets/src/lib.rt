@@ -16,8 +16,8 @@ pub use crate::blocks::{
 };
 pub use crate::line::{Line, Reason, parse_line};
 pub use crate::list::{
-    AddressList, BadLine, Excerpt, ListFault, comments_select_nothing, list_selects_one, read_list,
-    read_list_past_bad_lines,
+    AddressList, BadLine, Excerpt, ListFault, comments_select_nothing, list_selects_one,
+    order_mark_selects_nothing, read_list, read_list_past_bad_lines,
 };
 pub use crate::operations::{Operation, combine};
 pub use crate::set::{AddressRanges, AddressSet};

@@ -1,4 +1,4 @@
-//! What one line of a list means: nothing, `ADDRESS`, `ADDRESS/LENGTH` or `ADDRESS-ADDRESS`.
+//! What one line of a list means: nothing, an address, a block, or a range.
 
 ghost use Rattle.std.specs.Prelude.{◌≡◌, ◌<◌, IfSome, length};
 ghost use Rattle.std.specs.List.{position};
@@ -8,6 +8,7 @@ ghost use Rattle.ip_sets.specs.Plain.{BeginsWithLine};
 
 pub(crate) mod family;
 pub(crate) mod groups;
+pub(crate) mod mask;
 pub(crate) mod octets;
 pub(crate) mod parts;
 pub(crate) mod plain;
@@ -17,7 +18,7 @@ pub(crate) mod reasons;
 
 use crate::line::parts::trimmed;
 use crate::line::plain::plain_line;
-use crate::line::range::range;
+use crate::line::range::{bracketed, range};
 pub use crate::line::reasons::Reason;
 use memchr::memchr;
 use std::ops::RangeInclusive;
@@ -36,8 +37,10 @@ pub enum Line {
 /// Returns what a line means, or `None` if it is bad. It may have a line feed at its end.
 ///
 /// Surrounding white space, including the line ending, is ignored. The first `#` or `;` begins a
-/// comment. In `ADDRESS/LENGTH`, the bits past the length are cleared. In `ADDRESS-ADDRESS`, the
-/// two are of one family, and the second is not below the first.
+/// comment. A block is `ADDRESS/LENGTH` or `ADDRESS/MASK`; the bits past the length are cleared. A
+/// range is `END-END`, and each end is an address or a block. It goes from the first address of the
+/// first end to the last one of the second, which is not below it; both are of one family. An IPv6
+/// address that is the whole line may be in brackets.
 pub fn parse_line(line: &[u8]) -> Option<Line>
     ensures { Reads result (IsLine line.now) }
 {
@@ -48,7 +51,10 @@ pub fn parse_line(line: &[u8]) -> Option<Line>
     if let Some(addresses) = range::<u32>(text) {
         return Some(Line::V4(addresses));
     }
-    let addresses = range::<u128>(text)?;
+    if let Some(addresses) = range::<u128>(text) {
+        return Some(Line::V6(addresses));
+    }
+    let addresses = bracketed::<u128>(text)?;
     Some(Line::V6(addresses))
 }
 

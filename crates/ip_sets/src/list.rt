@@ -10,18 +10,22 @@ ghost use Rattle.std.specs.Prelude.{
   Err,
   IfOk,
   IfSome,
+  IsFalse,
+  IsOk,
+  IsTrue,
   List,
   OnOk,
   Some,
   length,
 };
-ghost use Rattle.std.specs.Str.Lines.{lines};
 ghost use Rattle.range_set_blaze.specs.Runs.{members};
 ghost use Rattle.ip_sets.specs.List.{
   IsFirstBadLine,
   IsListOf,
   IsListPast,
   LeavesPastBadLine,
+  list_lines,
+  report_line,
   reports_text,
 };
 
@@ -30,13 +34,14 @@ pub(crate) mod excerpt;
 pub(crate) mod fault;
 mod gathered;
 mod laws;
+mod order_mark;
 
 use crate::set::AddressSet;
 pub use bad_line::BadLine;
 pub use excerpt::Excerpt;
 pub use fault::ListFault;
 use gathered::{Gathered, too_many_lines};
-pub use laws::{comments_select_nothing, list_selects_one};
+pub use laws::{comments_select_nothing, list_selects_one, order_mark_selects_nothing};
 use std::alloc::{Allocator, Global};
 use std::io::{BufRead, Write};
 
@@ -50,8 +55,8 @@ pub struct AddressList<A: Allocator = Global> {
 }
 
 /// Reads a list to the end of the input, and returns the addresses that its lines mean
-/// (`parse_line`). While reading, it holds one range per line with addresses, and any line that is
-/// cut by the end of the buffer.
+/// (`parse_line`). A byte order mark at the start does not count. While reading, it holds one range
+/// per line with addresses, the first line, and any line that is cut by the end of the buffer.
 ///
 /// `BadLine` has the first bad line; what follows that line is not read. `NoMemory` is returned if
 /// an allocation fails, including one made by a read. `Io` has the error of a read that fails. It is
@@ -63,7 +68,7 @@ pub fn read_list<A: Allocator + Copy, R: BufRead>(
     ensures list { IfOk result (λ list. IfSome (R.remaining input.old) (λ bytes.
         IsListOf bytes (members list.v4) (members list.v6))) }
     ensures run_count { IfOk result (λ list. IfSome (R.remaining input.old) (λ bytes.
-        length list.v4 + length list.v6 ≤ length (lines bytes))) }
+        length list.v4 + length list.v6 ≤ length (list_lines bytes))) }
     ensures end { OnOk result (IfSome (R.remaining input.old) (λ bytes.
         R.remaining input.new ≡ Some [])) }
     ensures bad_line { (bad : BadLine) → result ≡ Err (ListFault.BadLine bad)
@@ -74,6 +79,7 @@ pub fn read_list<A: Allocator + Copy, R: BufRead>(
 {
     let mut gathered = Gathered::new(alloc);
     let mut line = Vec::new(alloc);
+    gathered.read_first_line(input, &mut line)?;
     gathered.read_on(input, &mut line)?;
     Ok(gathered.list())
 }
@@ -96,12 +102,35 @@ pub fn read_list_past_bad_lines<A: Allocator + Copy, R: BufRead>(
 {
     let mut gathered = Gathered::new(alloc);
     let mut line = Vec::new(alloc);
+    tell(gathered.read_first_line(input, &mut line), name, told)?;
     for _ in 0..u64::MAX {
-        match gathered.read_on(input, &mut line) {
-            Ok(()) => return Ok(gathered.list()),
-            Err(ListFault::BadLine(bad)) => writeln!(told, "{name}:{bad}")?,
-            Err(fault) => return Err(fault),
+        let is_done = tell(gathered.read_on(input, &mut line), name, told)?;
+        if is_done {
+            return Ok(gathered.list());
         }
     }
     Err(too_many_lines())
+}
+
+// Adds a line for a bad line, if there is one. Returns whether there is none.
+fn tell<A: Allocator>(
+    outcome: Result<(), ListFault>,
+    name: &str,
+    told: &mut Vec<u8, A>,
+) -> Result<bool, ListFault>
+    ensures none { IfOk result (λ is_done. IsTrue is_done → IsOk outcome
+        × (told.new.items ≡ told.old.items)) }
+    ensures some { IfOk result (λ is_done. IsFalse is_done → (bad : BadLine)
+        × (outcome ≡ Err (ListFault.BadLine bad))
+        × (told.new.items ≡ told.old.items ++ report_line name.now bad)) }
+    ensures fault { (bad : BadLine) → result ≢ Err (ListFault.BadLine bad) }
+{
+    match outcome {
+        Ok(()) => Ok(true),
+        Err(ListFault::BadLine(bad)) => {
+            writeln!(told, "{name}:{bad}")?;
+            Ok(false)
+        }
+        Err(fault) => Err(fault),
+    }
 }

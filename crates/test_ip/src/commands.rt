@@ -9,4 +9,5 @@ mod many_parts;
 mod process;
 mod reads;
 mod refusals;
+mod skips;
 mod writes;

@@ -1,13 +1,15 @@
 -- What an operation selects from lists.
-use Rattle.std.proofs.Common.{◌≡◌, ℕ, ◌^◌, List, [], ◌∷◌, map, Option, ◌∙◌, refl, ap, subst}
+use Rattle.std.proofs.Common.{◌≡◌, ℕ, ◌^◌, Bool, List, [], ◌∷◌, map, Option, ◌∙◌, refl, ap, subst}
 use Rattle.std.specs.Io.KnownBytes.{Appends}
 use Rattle.range_set_blaze.specs.Runs.{members}
 use Rattle.range_set_blaze.specs.Selection.{Agree}
+use Rattle.ip_sets.specs.List.{has_bytes}
 use Rattle.ip_sets.specs.Operation.{selected_by}
 use Rattle.ip_sets.specs.declared.list.AddressList.{AddressList}
-use Rattle.ip_commands.specs.Answer.{IsCombined, v4_of, v6_of}
-use Rattle.ip_commands.specs.Files.{AreFilesOf, selected}
+use Rattle.ip_commands.specs.Answer.{IsCombined, combined_outcome, v4_of, v6_of}
+use Rattle.ip_commands.specs.Files.{AreFilesOf, file_names, selected}
 use Rattle.ip_commands.specs.Selection.{WritesSelected}
+use Rattle.ip_commands.specs.declared.commands.Outcome.{Outcome}
 use Rattle.ip_commands.specs.declared.request.Combination.{Combination}
 
 -- The IPv4 addresses of lists.
@@ -24,13 +26,18 @@ same-v6 (list ∷ lists) = ap (λ others. members list.v6 ∷ others) (same-v6 l
 
 -- What was written is an answer.
 pub combined : {A : Type 0} (bytes : List ℕ → Option (List ℕ)) (combination : Combination)
-    (lists given : List (AddressList A)) (old new : Option (List ℕ)) → given ≡ lists
-    → AreFilesOf bytes (map (λ name. name.now) combination.files.now) (map selected lists)
-    → WritesSelected [] combination.form combination.families
+    (lists given : List (AddressList A)) (old new : Option (List ℕ)) (some : Bool)
+    (outcome : Outcome) → given ≡ lists
+    → AreFilesOf bytes combination.sources.skip_bad (file_names combination.sources)
+    (map selected lists)
+    → WritesSelected some [] combination.form combination.families
     (selected_by combination.operation (map members (map (λ list. list.v4) given)))
     (selected_by combination.operation (map members (map (λ list. list.v6) given))) old new
-    → (text : List ℕ) × IsCombined bytes combination text × Appends old new text
-combined bytes combination lists given old new same files written = (
+    → ((text : List ℕ) → some ≡ has_bytes text
+    → outcome ≡ combined_outcome combination.fail_empty text)
+    → (text : List ℕ) × IsCombined bytes combination text
+    × (outcome ≡ combined_outcome combination.fail_empty text) × Appends old new text
+combined bytes combination lists given old new some outcome same files written ends = (
   written.text,
   record {
     lists = map selected lists;
@@ -45,5 +52,6 @@ combined bytes combination lists given old new same files written = (
         (ap (λ each. map members (map (λ list. list.v6) each)) same ∙ same-v6 lists) written.v6_made;
     whole = written.whole;
   },
+  ends written.text written.has_line,
   written.written,
 )

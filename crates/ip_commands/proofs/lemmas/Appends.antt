@@ -9,6 +9,13 @@ pub Keeps-itself : (known : Option (List ℕ)) → Keeps known known
 Keeps-itself None = tt
 Keeps-itself (Some xs) = refl
 
+-- If known bytes are kept twice, they are kept.
+pub Keeps-then : (old mid new : Option (List ℕ)) → Keeps old mid → Keeps mid new → Keeps old new
+Keeps-then None mid new first second = tt
+Keeps-then (Some before) None new first second = absurd first
+Keeps-then (Some before) (Some between) None first second = absurd second
+Keeps-then (Some before) (Some between) (Some after) first second = second ∙ first
+
 -- If nothing changes, nothing was written.
 pub Appends-nothing : (known : Option (List ℕ)) → Appends known known []
 Appends-nothing None = tt

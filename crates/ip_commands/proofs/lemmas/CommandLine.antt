@@ -8,11 +8,12 @@ use Rattle.std.proofs.lemmas.Slice.Eq.{bytes_eq-Decides}
 use Rattle.std.specs.Bool.{Decides}
 use Rattle.std.specs.List.{filter, filter_map, find, last_or, list_any}
 use Rattle.std.specs.Option.{IsSomeAnd, option_or}
-use Rattle.std.specs.Prelude.{Err, IfErr, IfOk, MatchResult, Ok, Result, ◌==◌, bytes_eq, codes, if◌then◌else◌, slice_index_or, unwrap_or}
-use Rattle.ip_commands.specs.CommandLine.{AreArguments, IsMisuseOfOperands, IsRequestWith, after_mark, before_mark, families_asked, first_unknown, form_asked, is_dashed, is_known, is_mark, operands_of, options_of, question_asked, words_needed}
+use Rattle.std.specs.Prelude.{Err, IfErr, IfOk, IsErrAnd, MatchResult, Ok, Result, ◌==◌, bytes_eq, codes, if◌then◌else◌, slice_index_or, unwrap_or}
+use Rattle.ip_commands.specs.CommandLine.{AreArguments, IsCommand, IsMisuseOfCommand, IsMisuseOfOperands, IsRequestWith, after_mark, asked_by, asks_fail_empty, asks_skip_bad, before_mark, families_asked, first_unknown, form_asked, is_dashed, is_known, is_mark, operands_of, options_of, question_asked, words_needed}
 use Rattle.ip_commands.specs.declared.arguments.Arguments.{Arguments}
+use Rattle.ip_commands.specs.declared.arguments.Options.{Options}
 use Rattle.ip_commands.specs.declared.fault.Misuse.{Misuse}
-use Rattle.ip_commands.specs.declared.fault.Misuse.TheVariants.{MissingFile}
+use Rattle.ip_commands.specs.declared.fault.Misuse.TheVariants.{ExtraWord, MissingAddress, MissingFile, MissingNumber, NoAddress, NoCommand, NoNumber, NotText, RepeatedInput, UnknownCommand, UnknownOption}
 use Rattle.ip_commands.specs.declared.request.Families.{Families}
 use Rattle.ip_commands.specs.declared.request.Families.TheVariants.{Both}
 use Rattle.ip_commands.specs.declared.request.Form.{Form}
@@ -175,14 +176,14 @@ module _ (word : List ℕ) where
       → operands_of (word ∷ []) ≡ []
   dashed-operand other dashed = rw (other, dashed) refl
 
--- Whether some word is `--`, with one more word.
-pub one-more : (words : List (List ℕ)) (word : List ℕ)
-    → list_any is_mark (words ++ word ∷ []) ≡ (list_any is_mark words || is_mark word)
-one-more [] word =
-    elim (is_mark word) as (λ mark. (mark || false) ≡ mark) [ true ↦ refl | false ↦ refl ]
-one-more (first ∷ words) word =
-    ap (λ rest. is_mark first || rest) (one-more words word)
-    ∙ or-assoc (is_mark first) (list_any is_mark words) (is_mark word)
+-- Whether some word passes a test, with one more word.
+pub one-more : (test : List ℕ → Bool) (words : List (List ℕ)) (word : List ℕ)
+    → list_any test (words ++ word ∷ []) ≡ (list_any test words || test word)
+one-more test [] word =
+    elim (test word) as (λ passes. (passes || false) ≡ passes) [ true ↦ refl | false ↦ refl ]
+one-more test (first ∷ words) word =
+    ap (λ rest. test first || rest) (one-more test words word)
+    ∙ or-assoc (test first) (list_any test words) (test word)
   where
     or-assoc : (a b c : Bool) → (a || (b || c)) ≡ ((a || b) || c)
     or-assoc true b c = refl
@@ -216,6 +217,40 @@ pub either-default : {X : Type 0} (new old : Option X) (default : X)
     → unwrap_or (option_or new old) default ≡ unwrap_or new (unwrap_or old default)
 either-default None old default = refl
 either-default (Some value) old default = refl
+
+-- What the options ask for with one more.
+abbrev pub option_added : List ℕ → Options → Options
+option_added word options = record {
+  form = unwrap_or (form_asked word) options.form;
+  families = unwrap_or (families_asked word) options.families;
+  question = option_or (question_asked word) options.question;
+  fail_empty = options.fail_empty || asks_fail_empty word;
+  skip_bad = options.skip_bad || asks_skip_bad word;
+}
+
+-- Options that are the same in each part are the same.
+pub options-equal : (some other : Options) → some.form ≡ other.form
+    → some.families ≡ other.families → some.question ≡ other.question
+    → some.fail_empty ≡ other.fail_empty → some.skip_bad ≡ other.skip_bad → some ≡ other
+options-equal some other form families question fail_empty skip_bad = λ i. record {
+  form = form i;
+  families = families i;
+  question = question i;
+  fail_empty = fail_empty i;
+  skip_bad = skip_bad i;
+}
+
+-- One more option adds what it asks for.
+pub asked-more : (options : List (List ℕ)) (word : List ℕ)
+    → asked_by (options ++ word ∷ []) ≡ option_added word (asked_by options)
+asked-more options word =
+    options-equal (asked_by (options ++ word ∷ [])) (option_added word (asked_by options))
+    (ap (λ each. unwrap_or each Blocks) (last-more form_asked None options word)
+    ∙ either-default (form_asked word) (last_or None (filter_map form_asked options)) Blocks)
+    (ap (λ each. unwrap_or each Both) (last-more families_asked None options word)
+    ∙ either-default (families_asked word) (last_or None (filter_map families_asked options)) Both)
+    (last-more question_asked None options word)
+    (one-more asks_fail_empty options word) (one-more asks_skip_bad options word)
 
 -- ---- slices
 
@@ -257,14 +292,14 @@ some-mapped f xs some = rw (length-map xs f) some
 -- ---- commands
 
 -- What an operation on files asks for, or that there are too few files.
-pub of-operation : (form : Form) (families : Families) (operands : List (List ℕ)) (command : List ℕ)
+pub of-operation : (options : Options) (operands : List (List ℕ)) (command : List ℕ)
     (files : List (Bor (List ℕ))) (result : Result Request Misuse)
     → operands ≡ command ∷ map (λ name. name.now) files → words_needed command ≡ Some 1
-    → IfOk result (IsRequestWith form families operands)
+    → IfOk result (IsRequestWith options operands)
     → IfErr result (λ misuse. (misuse ≡ MissingFile) × (files ≡ []))
-    → MatchResult result (IsRequestWith form families operands) (IsMisuseOfOperands operands)
-of-operation form families operands command files (Ok request) parts needs asks few = asks
-of-operation form families operands command files (Err misuse) parts needs asks few =
+    → MatchResult result (IsRequestWith options operands) (IsMisuseOfOperands operands)
+of-operation options operands command files (Ok request) parts needs asks few = asks
+of-operation options operands command files (Err misuse) parts needs asks few =
     let none : length (map (λ (name : Bor (List ℕ)). name.now) files) < 1 =
     subst (λ (each : List (Bor (List ℕ))). length (map (λ name. name.now) each) < 1) (sym few.1)
     (lit< tt) in
@@ -278,15 +313,39 @@ of-operation form families operands command files (Err misuse) parts needs asks 
     subst (IsMisuseOfOperands operands) (sym few.0) whole
 
 -- What a command and other words ask for, or what is wrong with them.
-pub of-command : (form : Form) (families : Families) (operands others : List (List ℕ))
+pub of-command : (options : Options) (operands others : List (List ℕ))
     (result : Result Request Misuse) → operands ≡ others
-    → IfOk result (IsRequestWith form families others)
+    → IfOk result (IsRequestWith options others)
     → IfErr result (IsMisuseOfOperands others)
-    → MatchResult result (IsRequestWith form families operands) (IsMisuseOfOperands operands)
-of-command form families operands others (Ok request) same asks wrong =
-    subst (λ words. IsRequestWith form families words request) (sym same) asks
-of-command form families operands others (Err misuse) same asks wrong =
+    → MatchResult result (IsRequestWith options operands) (IsMisuseOfOperands operands)
+of-command options operands others (Ok request) same asks wrong =
+    subst (λ words. IsRequestWith options words request) (sym same) asks
+of-command options operands others (Err misuse) same asks wrong =
     subst (λ words. IsMisuseOfOperands words misuse) (sym same) wrong
+
+-- What is wrong with the operands comes before repeated input.
+pub misuse-first : (options : Options) (operands : List (List ℕ)) (misuse : Misuse)
+    → IsMisuseOfOperands operands misuse → IsMisuseOfCommand options operands misuse
+misuse-first options operands NoCommand is = is
+misuse-first options operands (UnknownCommand word) is = is
+misuse-first options operands (UnknownOption word) is = is
+misuse-first options operands (NoNumber word) is = is
+misuse-first options operands (NoAddress word) is = is
+misuse-first options operands (ExtraWord word) is = is
+misuse-first options operands MissingFile is = is
+misuse-first options operands MissingNumber is = is
+misuse-first options operands MissingAddress is = is
+misuse-first options operands RepeatedInput is = absurd is
+misuse-first options operands NotText is = is
+
+-- What is wrong with the operands, if `?` passes it on.
+pub misuse-passed : (options : Options) (operands : List (List ℕ)) (result : Result Request Misuse)
+    (misuse : Misuse) → IsErrAnd result (λ other. other ≡ misuse)
+    → IsMisuseOfOperands operands misuse
+    → MatchResult result (IsCommand options operands) (IsMisuseOfCommand options operands)
+misuse-passed options operands (Ok request) misuse same is = absurd same
+misuse-passed options operands (Err other) misuse same is =
+    subst (IsMisuseOfCommand options operands) (sym same) (misuse-first options operands misuse is)
 
 -- A word that is none of the commands.
 pub no-command : (word : List ℕ) → word ≢ codes "union" → word ≢ codes "common"
@@ -376,9 +435,9 @@ module _ (words : List (List ℕ)) (word : List ℕ) where
   more-operand-ended : (list_any is_mark words ≡ true) ⊎ (is_dashed word ≡ false)
       → list_any is_mark all_words ≡ list_any is_mark words
   more-operand-ended (inl some) =
-      one-more words word ∙ or-left (list_any is_mark words) (is_mark word) some ∙ sym some
+      one-more is_mark words word ∙ or-left (list_any is_mark words) (is_mark word) some ∙ sym some
   more-operand-ended (inr plain) =
-      one-more words word ∙ or-none (list_any is_mark words) (is_mark word) (no-mark word plain)
+      one-more is_mark words word ∙ or-none (list_any is_mark words) (is_mark word) (no-mark word plain)
 
   module _ {A : Type 0} (old new : Arguments A) (are : AreArguments words old) where
     -- The arguments of one more operand.
@@ -393,14 +452,7 @@ module _ (words : List (List ℕ)) (word : List ℕ) where
         record {
           known = ap (λ each. find (λ (option : List ℕ). not (is_known option)) each) same-options
               ∙ are.known;
-          form = ap (λ each. each.form) options ∙ are.form
-              ∙ sym (ap (λ each. unwrap_or (last_or None (filter_map form_asked each)) Blocks)
-              same-options);
-          families = ap (λ each. each.families) options ∙ are.families
-              ∙ sym (ap (λ each. unwrap_or (last_or None (filter_map families_asked each)) Both)
-              same-options);
-          question = ap (λ each. each.question) options ∙ are.question
-              ∙ sym (ap (λ each. last_or None (filter_map question_asked each)) same-options);
+          options = options ∙ are.options ∙ sym (ap asked_by same-options);
           operands = items ∙ ap (λ each. each ++ word ∷ []) are.operands
               ∙ sym (more-operand-operands marked);
           ended = ended ∙ are.ended ∙ sym (more-operand-ended marked);
@@ -419,18 +471,11 @@ module _ (words : List (List ℕ)) (word : List ℕ) where
         record {
           known = ap (λ each. find (λ (option : List ℕ). not (is_known option)) each) same-options
               ∙ are.known;
-          form = ap (λ each. each.form) options ∙ are.form
-              ∙ sym (ap (λ each. unwrap_or (last_or None (filter_map form_asked each)) Blocks)
-              same-options);
-          families = ap (λ each. each.families) options ∙ are.families
-              ∙ sym (ap (λ each. unwrap_or (last_or None (filter_map families_asked each)) Both)
-              same-options);
-          question = ap (λ each. each.question) options ∙ are.question
-              ∙ sym (ap (λ each. last_or None (filter_map question_asked each)) same-options);
+          options = options ∙ are.options ∙ sym (ap asked_by same-options);
           operands = items ∙ are.operands ∙ sym (append-nil (operands_of words))
               ∙ ap (λ each. operands_of words ++ each) (sym (mark-operand word mark))
               ∙ sym (operands-unmarked words (word ∷ []) none);
-          ended = ended ∙ sym (one-more words word
+          ended = ended ∙ sym (one-more is_mark words word
               ∙ or-right (list_any is_mark words) (is_mark word) mark);
         }
 
@@ -441,8 +486,10 @@ module _ (words : List (List ℕ)) (word : List ℕ) where
         → new.options.form ≡ unwrap_or (form_asked word) old.options.form
         → new.options.families ≡ unwrap_or (families_asked word) old.options.families
         → new.options.question ≡ option_or (question_asked word) old.options.question
+        → new.options.fail_empty ≡ (old.options.fail_empty || asks_fail_empty word)
+        → new.options.skip_bad ≡ (old.options.skip_bad || asks_skip_bad word)
         → new.is_ended ≡ old.is_ended → AreArguments all_words new
-    more-option unended other dashed known items form families question ended =
+    more-option unended other dashed known items form families question fail_empty skip_bad ended =
         let none : list_any is_mark words ≡ false = sym are.ended ∙ unended in
         let more : options_of all_words ≡ options_of words ++ word ∷ [] =
         options-unmarked words (word ∷ []) none
@@ -453,27 +500,15 @@ module _ (words : List (List ℕ)) (word : List ℕ) where
               (word ∷ [])
               ∙ ap (λ each. option_or each (cond (not (is_known word)) (Some word) None)) are.known
               ∙ known-passes word (is_known word) known;
-          form = form ∙ ap (λ each. unwrap_or (form_asked word) each) are.form
-              ∙ sym (ap (λ each. unwrap_or (last_or None (filter_map form_asked each)) Blocks) more
-              ∙ ap (λ each. unwrap_or each Blocks)
-              (last-more form_asked None (options_of words) word)
-              ∙ either-default (form_asked word)
-              (last_or None (filter_map form_asked (options_of words))) Blocks);
-          families = families ∙ ap (λ each. unwrap_or (families_asked word) each) are.families
-              ∙ sym (ap (λ each. unwrap_or (last_or None (filter_map families_asked each)) Both)
-              more
-              ∙ ap (λ each. unwrap_or each Both)
-              (last-more families_asked None (options_of words) word)
-              ∙ either-default (families_asked word)
-              (last_or None (filter_map families_asked (options_of words))) Both);
-          question = question ∙ ap (λ each. option_or (question_asked word) each) are.question
-              ∙ sym (ap (λ each. last_or None (filter_map question_asked each)) more
-              ∙ last-more question_asked None (options_of words) word);
+          options = options-equal new.options (option_added word old.options) form families question
+              fail_empty skip_bad
+              ∙ ap (option_added word) are.options
+              ∙ sym (ap asked_by more ∙ asked-more (options_of words) word);
           operands = items ∙ are.operands ∙ sym (append-nil (operands_of words))
               ∙ ap (λ each. operands_of words ++ each) (sym (dashed-operand word other dashed))
               ∙ sym (operands-unmarked words (word ∷ []) none);
           ended = ended ∙ are.ended
-              ∙ sym (one-more words word ∙ or-none (list_any is_mark words) (is_mark word) other);
+              ∙ sym (one-more is_mark words word ∙ or-none (list_any is_mark words) (is_mark word) other);
         }
 
     -- An option that is unknown is the first one, whatever follows it.

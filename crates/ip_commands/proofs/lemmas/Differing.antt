@@ -2,7 +2,7 @@
 use Rattle.std.proofs.Common.{◌≡◌, ◌≢◌, ◌∙◌, ◌↔◌, ℕ, ◌<◌, Bool, true, false, not, ◌&&◌, ◌||◌, List, ◌++◌, Option, IsTrue, refl, sym, subst}
 use Rattle.std.proofs.lemmas.Bool.{false≢true}
 use Rattle.std.specs.Io.KnownBytes.{Appends}
-use Rattle.std.specs.Prelude.{Err, Ok, OnOk, Result, codes}
+use Rattle.std.specs.Prelude.{codes}
 use Rattle.range_set_blaze.specs.Runs.{AreRuns, Interval, members}
 use Rattle.range_set_blaze.specs.Selection.{Agree, Selection, difference, union}
 use Rattle.rsb_streams.specs.Stream.{◌⊆◌, SomeOutcomes, just}
@@ -37,15 +37,14 @@ only-runs n given set same are = λ runs is.
     subst (AreRuns n (members set)) (sym (is ∙ same)) are
 
 -- If both differences were written, so was what differs.
-pub both-differences : {E : Type 0} (form : Form) (families : Families) (old new : Selected)
-    (before between after : Option (List ℕ)) (result : Result (Unit {0}) E)
-    → WritesSelected (codes "-") form families (difference old.v4 new.v4)
+pub both-differences : (form : Form) (families : Families) (old new : Selected)
+    (before between after : Option (List ℕ)) (has_minus has_plus : Bool)
+    → WritesSelected has_minus (codes "-") form families (difference old.v4 new.v4)
     (difference old.v6 new.v6) before between
-    → OnOk result (WritesSelected (codes "+") form families (difference new.v4 old.v4)
-    (difference new.v6 old.v6) between after)
-    → OnOk result ((text : List ℕ) × IsDiffText form families old new text
-    × Appends before after text)
-both-differences form families old new before between after (Ok done) outs ins = (
+    → WritesSelected has_plus (codes "+") form families (difference new.v4 old.v4)
+    (difference new.v6 old.v6) between after
+    → (text : List ℕ) × IsDiffText form families old new text × Appends before after text
+both-differences form families old new before between after has_minus has_plus outs ins = (
   outs.text ++ ins.text,
   record {
     out4 = outs.v4_runs;
@@ -64,7 +63,6 @@ both-differences form families old new before between after (Ok done) outs ins =
   },
   Appends-then before between after outs.text ins.text outs.written ins.written,
 )
-both-differences form families old new before between after (Err error) outs ins = tt
 
 -- ---- whether there is a difference
 

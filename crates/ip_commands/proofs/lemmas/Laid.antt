@@ -1,10 +1,12 @@
 -- Text that is laid on a page in parts, and written later.
-use Rattle.std.proofs.Common.{◌≡◌, ◌∙◌, ℕ, List, [], ◌∷◌, ◌++◌, Option, sym, ap, append_assoc, subst}
+use Rattle.std.proofs.Common.{◌≡◌, ◌∙◌, ℕ, ◌+◌, ◌<◌, Bool, not, List, [], ◌∷◌, ◌++◌, length, Option, refl, sym, ap, append_assoc, arith, length-append, subst}
+use Rattle.std.proofs.lemmas.Bool.Decides.{nat_tests}
 use Rattle.std.proofs.lemmas.List.{append-nil, flat_map_more}
 use Rattle.std.specs.Io.KnownBytes.{Appends}
 use Rattle.std.specs.List.{flat_map}
-use Rattle.std.specs.Prelude.{Err, Ok, OnOk, Result}
-use Rattle.ip_commands.specs.Page.{Lays}
+use Rattle.std.specs.Prelude.{◌==◌}
+use Rattle.ip_sets.specs.List.{has_bytes}
+use Rattle.ip_commands.specs.Page.{Lays, LeavesSome}
 use Rattle.ip_commands.proofs.lemmas.Appends.{Appends-nothing, Appends-then}
 
 -- If nothing changes, nothing was laid.
@@ -49,16 +51,33 @@ lays-item line old mid new waited between before waits items item lines room mor
     (lays-then mid new new between before waits [] (line item) room
     (lays-added new before waits (line item) more)))
 
+-- If a text with a byte was added last, something waits.
+pub left-some : (before line waits text : List ℕ) → waits ≡ before ++ line → 0 < length line
+    → LeavesSome waits text
+left-some before line waits text is some = λ none.
+    let many : length waits ≡ length before + length line = ap length is ∙ length-append before line in
+    let no_bytes : length waits ≡ 0 = ap length none in
+    absurd (omega (arith, many, no_bytes, some))
+
+-- Something waits exactly if the text that was laid on an empty page is not empty.
+laid-some : (front waits text : List ℕ) → front ++ waits ≡ text → LeavesSome waits text
+    → not (length waits == 0) ≡ has_bytes text
+laid-some front [] text parts leaves = sym (ap has_bytes (leaves refl))
+laid-some front (byte ∷ waits) text parts leaves =
+    let many : length text ≡ length front + length (byte ∷ waits) =
+    ap length (sym parts) ∙ length-append front (byte ∷ waits) in
+    grind (arith, nat_tests, many)
+
 -- If a text of some runs was laid on an empty page and the page was then written, the text was
 -- written.
-pub lays-sent : {E R : Type 0} (May : R → Type 0) (IsText : R → List ℕ → Type 0)
-    (result : Result (Unit {0}) E)
-    (old mid new : Option (List ℕ)) (waited waits : List ℕ) → waited ≡ []
-    → (runs : R) × May runs × ((text : List ℕ) × IsText runs text × Lays old mid waited waits text)
-    → OnOk result (Appends mid new waits)
-    → OnOk result ((runs : R) × May runs
-    × ((text : List ℕ) × IsText runs text × Appends old new text))
-lays-sent May IsText (Ok done) old mid new waited waits none laid sent =
+pub lays-sent : {R : Type 0} (May : R → Type 0) (IsText : R → List ℕ → Type 0)
+    (old mid new : Option (List ℕ)) (waited waits : List ℕ) (some : Bool) → waited ≡ []
+    → (runs : R) × May runs × ((text : List ℕ) × IsText runs text × Lays old mid waited waits text
+    × LeavesSome waits text)
+    → some ≡ not (length waits == 0) → Appends mid new waits
+    → (runs : R) × May runs × ((text : List ℕ) × IsText runs text × Appends old new text
+    × (some ≡ has_bytes text))
+lays-sent May IsText old mid new waited waits some none laid is sent =
     let text = laid.2 in
     let lays = text.2 in
     let parts : lays.front ++ waits ≡ text.0 =
@@ -70,6 +89,6 @@ lays-sent May IsText (Ok done) old mid new waited waits none laid sent =
         text.1,
         subst (Appends old new) parts
             (Appends-then old mid new lays.front waits lays.written sent),
+        is ∙ laid-some lays.front waits text.0 parts text.3,
       ),
     )
-lays-sent May IsText (Err error) old mid new waited waits none laid sent = tt

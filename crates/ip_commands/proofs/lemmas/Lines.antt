@@ -1,5 +1,5 @@
 -- The lines of the ranges of a set.
-use Rattle.std.proofs.Common.{◌≡◌, ◌∙◌, ℕ, ◌^◌, ◌<◌, ◌≤◌, Bool, true, false, cond, List, [], ◌∷◌, ◌++◌, length, suc, refl, sym, ap, subst, arith}
+use Rattle.std.proofs.Common.{◌≡◌, ◌∙◌, ℕ, ◌+◌, ◌^◌, ◌<◌, ◌≤◌, Bool, true, false, cond, List, [], ◌∷◌, ◌++◌, length, suc, refl, sym, ap, subst, arith, length-append}
 use Rattle.std.specs.Range.{range_inclusive_start, range_inclusive_end, range_inclusive_exhausted}
 use Rattle.std.specs.declared.ops.RangeInclusive.{RangeInclusive}
 use Rattle.range_set_blaze.specs.Runs.{from_to, members, Interval}
@@ -11,11 +11,9 @@ use Rattle.ip_sets.specs.Blocks.{IsMaximalBlock}
 use Rattle.ip_sets.specs.BlocksLeft.{IsAligned, block_runs}
 use Rattle.ip_sets.specs.declared.blocks.block.Block.{Block}
 use Rattle.std.specs.Io.KnownBytes.{Appends}
-use Rattle.std.specs.Prelude.{Err, Ok, OnOk, Option, Result}
-use Rattle.ip_commands.proofs.lemmas.Appends.{Appends-then}
-use Rattle.ip_commands.specs.Text.{IsSignedList, IsSignedSet, kept_v4, kept_v6, range_line}
-use Rattle.ip_commands.specs.declared.request.Families.{Families}
-use Rattle.ip_commands.specs.declared.request.Families.TheVariants.{Both, V4, V6}
+use Rattle.std.specs.Prelude.{◌==◌, Option, codes, decimal, if◌then◌else◌}
+use Rattle.ip_sets.specs.List.{has_bytes}
+use Rattle.ip_commands.specs.Text.{IsSignedList, IsSignedSet, block_line, range_line}
 use Rattle.ip_commands.specs.declared.request.Form.{Form}
 use Rattle.ip_commands.specs.declared.request.Form.TheVariants.{Blocks, Ranges}
 
@@ -112,64 +110,45 @@ module _ (sign : List ℕ) (form : Form) (v4 v6 : List Interval) (v4_lines v6_li
 
 -- ---- what was written
 
--- Whether a text of these IPv4 and IPv6 addresses was written.
-abbrev pub WritesList : List ℕ → Form → List Interval → List Interval → Option (List ℕ) → Option (List ℕ)
+-- Whether a text of these IPv4 addresses was written, and whether it has a line.
+abbrev pub WritesV4 : Bool → List ℕ → Form → List Interval → Option (List ℕ) → Option (List ℕ)
     → Type 0
-WritesList sign form v4 v6 old new = (text : List ℕ) × IsSignedList sign form v4 v6 text × Appends old new text
+WritesV4 some sign form v4 old new = (text : List ℕ)
+    × IsSignedSet sign v4_text (λ (number : ℕ). number) 32 (2 ^ 32) form v4 text
+    × Appends old new text × (some ≡ has_bytes text)
 
--- Whether a text of these IPv4 addresses was written.
-abbrev pub WritesV4 : List ℕ → Form → List Interval → Option (List ℕ) → Option (List ℕ) → Type 0
-WritesV4 sign form v4 old new = (text : List ℕ)
-    × IsSignedSet sign v4_text (λ (number : ℕ). number) 32 (2 ^ 32) form v4 text × Appends old new text
+-- Whether a text of these IPv6 addresses was written, and whether it has a line.
+abbrev pub WritesV6 : Bool → List ℕ → Form → List Interval → Option (List ℕ) → Option (List ℕ)
+    → Type 0
+WritesV6 some sign form v6 old new = (text : List ℕ)
+    × IsSignedSet sign v6_text (λ (number : ℕ). number) 128 (2 ^ 128) form v6 text
+    × Appends old new text × (some ≡ has_bytes text)
 
--- Whether a text of these IPv6 addresses was written.
-abbrev pub WritesV6 : List ℕ → Form → List Interval → Option (List ℕ) → Option (List ℕ) → Type 0
-WritesV6 sign form v6 old new = (text : List ℕ)
-    × IsSignedSet sign v6_text (λ (number : ℕ). number) 128 (2 ^ 128) form v6 text × Appends old new text
+-- ---- lines have bytes
 
-module _ (sign : List ℕ) (form : Form) (families : Families) (v4 v6 : List Interval) where
-  -- What is written of these families.
-  abbrev Kept : Families → Option (List ℕ) → Option (List ℕ) → Type 0
-  Kept which old new = WritesList sign form (kept_v4 which v4) (kept_v6 which v6) old new
+-- A text that ends with a line feed has a byte, also after a sign.
+ends-line : (sign front : List ℕ) → 0 < length (sign ++ (front ++ codes "\n"))
+ends-line sign front =
+    let all : length (sign ++ (front ++ codes "\n")) ≡ length sign + (length front + 1) =
+    length-append sign (front ++ codes "\n")
+    ∙ ap (λ many. length sign + many) (length-append front (codes "\n")) in
+    omega (arith, all)
 
-  -- If the text of each family was written, so was that of both.
-  pub both-written : {E : Type 0} (result : Result (Unit {0}) E) (old mid new : Option (List ℕ))
-      → families ≡ Both → WritesV4 sign form v4 old mid → OnOk result (WritesV6 sign form v6 mid new)
-      → OnOk result (Kept families old new)
-  both-written (Ok done) old mid new is first last =
-      let text = first.0 ++ last.0 in
-      let whole : Kept Both old new = (
-        text,
-        both-lines sign form v4 v6 first.0 last.0 first.1 last.1,
-        Appends-then old mid new first.0 last.0 first.2 last.2,
-      ) in
-      subst (λ which. Kept which old new) (sym is) whole
-  both-written (Err error) old mid new is first last = tt
+-- The line of a block has a byte.
+pub some-block : {T : Type 0} (sign : List ℕ) (text : ℕ → List ℕ) (rank : T → ℕ) (width : ℕ)
+    (block : Block T) → 0 < length (sign ++ block_line text rank width block)
+some-block sign text rank width block =
+    elim (block.length == width) as (λ single. 0 < length (sign ++ (if single
+    then text (rank block.first) ++ codes "\n"
+    else text (rank block.first) ++ codes "/" ++ decimal block.length ++ codes "\n"))) [
+      | true ↦ ends-line sign (text (rank block.first))
+      | false ↦ ends-line sign (text (rank block.first) ++ codes "/" ++ decimal block.length)
+    ]
 
-  -- If only IPv4 is asked for, the text of the IPv4 addresses is enough.
-  pub v4-written : {E : Type 0} (result : Result (Unit {0}) E) (old new : Option (List ℕ))
-      → families ≡ V4 → OnOk result (WritesV4 sign form v4 old new) → OnOk result (Kept families old new)
-  v4-written (Ok done) old new is first =
-      let whole : Kept V4 old new =
-      (first.0, v4-lines sign form v4 v6 first.0 [] first.1, first.2) in
-      subst (λ which. Kept which old new) (sym is) whole
-  v4-written (Err error) old new is first = tt
-
-  -- If only IPv6 is asked for, the text of the IPv6 addresses is enough.
-  pub v6-written : {E : Type 0} (result : Result (Unit {0}) E) (old new : Option (List ℕ))
-      → families ≡ V6 → OnOk result (WritesV6 sign form v6 old new) → OnOk result (Kept families old new)
-  v6-written (Ok done) old new is last =
-      let whole : Kept V6 old new =
-      (last.0, v6-lines sign form v4 v6 [] last.0 last.1, last.2) in
-      subst (λ which. Kept which old new) (sym is) whole
-  v6-written (Err error) old new is last = tt
-
--- What holds of the runs that a set gives holds of those of the set.
-pub of-set : {E : Type 0} (result : Result (Unit {0}) E) (Fact : List Interval → Type 0)
-    (given set : List Interval) → given ≡ set
-    → OnOk result ((runs : List Interval) × (runs ≡ given) × Fact runs) → OnOk result (Fact set)
-of-set (Ok done) Fact given set same found = subst Fact (found.1 ∙ same) found.2
-of-set (Err error) Fact given set same found = tt
+-- The line of a range has a byte.
+pub some-range : (sign : List ℕ) (text : ℕ → List ℕ) (first last : ℕ)
+    → 0 < length (sign ++ range_line text first last)
+some-range sign text first last = ends-line sign (text first ++ codes "-" ++ text last)
 
 -- ---- counts
 

@@ -1,9 +1,8 @@
 -- The answer to a command is determined by the bytes of the files.
-use Rattle.std.proofs.Common.{◌≡◌, ◌∙◌, ℕ, ◌-◌, ◌^◌, List, [], ◌∷◌, ◌++◌, Option, Some, None, length, map, min, refl, sym, ap, subst}
+use Rattle.std.proofs.Common.{◌≡◌, ◌∙◌, ℕ, ◌-◌, ◌^◌, Bool, true, false, List, [], ◌∷◌, ◌++◌, Option, Some, None, length, map, min, refl, sym, ap, subst}
 use Rattle.std.proofs.lemmas.List.Elements.{All-head, All-tail}
 use Rattle.std.specs.Option.{IfSome, IsSome}
 use Rattle.std.specs.Prelude.{codes}
-use Rattle.std.specs.Str.Lines.{lines}
 use Rattle.std.specs.declared.net.ip_addr.IpAddr.{IpAddr}
 use Rattle.range_set_blaze.specs.Runs.{members, Interval, IsCanonicalIn}
 use Rattle.range_set_blaze.specs.Selection.{Agree, Selection, any_of, count}
@@ -12,10 +11,10 @@ use Rattle.ip_sets.specs.Address.{v4_text, v6_text}
 use Rattle.ip_sets.specs.Blocks.{AreMaximalBlocks}
 use Rattle.ip_sets.specs.Operation.{selected_by}
 use Rattle.ip_sets.specs.Line.{MeansV4, MeansV6}
-use Rattle.ip_sets.specs.List.{IsListOf}
+use Rattle.ip_sets.specs.List.{AreAddressesOf, list_lines}
 use Rattle.ip_sets.proofs.lemmas.listing.OneSelection.{one_selection}
 use Rattle.ip_commands.specs.Answer.{v4_of, v6_of, AreCounts, IsCombined, IsCountText, IsCounted, IsFound, count_line, found_outcome, has_address, names_text, names_with}
-use Rattle.ip_commands.specs.Files.{AreFilesOf, Selected}
+use Rattle.ip_commands.specs.Files.{AreFilesOf, Selected, SelectsPast, file_names}
 use Rattle.ip_commands.specs.ReadBack.{AreKnown}
 use Rattle.ip_commands.specs.Text.{kept_v4, kept_v6}
 use Rattle.ip_commands.specs.declared.commands.Outcome.{Outcome}
@@ -26,37 +25,47 @@ use Rattle.ip_commands.proofs.lemmas.SameText.{one-list, same-set}
 
 -- ---- known files are lists of one set
 
--- Two lists of the same bytes select the same addresses.
-same-list : (all : List ℕ) (list other : Selected) → IsListOf all list.v4 list.v6
-    → IsListOf all other.v4 other.v6 → list ≡ other
-same-list all list other is also =
-    let same4 = one_selection MeansV4 (lines all) list.v4 other.v4 is.v4_addresses
-    also.v4_addresses in
-    let same6 = one_selection MeansV6 (lines all) list.v6 other.v6 is.v6_addresses
-    also.v6_addresses in
+-- Selections of the addresses of the same lines are the same.
+same-addresses : (all : List ℕ) (list other : Selected)
+    → AreAddressesOf MeansV4 (list_lines all) list.v4 → AreAddressesOf MeansV6 (list_lines all) list.v6
+    → AreAddressesOf MeansV4 (list_lines all) other.v4 → AreAddressesOf MeansV6 (list_lines all) other.v6
+    → list ≡ other
+same-addresses all list other v4 v6 other4 other6 =
+    let same4 = one_selection MeansV4 (list_lines all) list.v4 other.v4 v4 other4 in
+    let same6 = one_selection MeansV6 (list_lines all) list.v6 other.v6 v6 other6 in
     λ i. record { v4 = λ number. same4 number i; v6 = λ number. same6 number i }
 
+-- The same bytes select the same addresses.
+same-list : (skip_bad : Bool) (all : List ℕ) (list other : Selected)
+    → SelectsPast skip_bad all list → SelectsPast skip_bad all other → list ≡ other
+same-list false all list other is also =
+    same-addresses all list other is.v4_addresses is.v6_addresses also.v4_addresses
+    also.v6_addresses
+same-list true all list other is also =
+    same-addresses all list other is.1.v4_addresses is.1.v6_addresses also.1.v4_addresses
+    also.1.v6_addresses
+
 -- If the bytes of a file are known, the file selects at most one set of each family.
-same-known : (known : Option (List ℕ)) (list other : Selected) → IsSome known
-    → IfSome known (λ all. IsListOf all list.v4 list.v6)
-    → IfSome known (λ all. IsListOf all other.v4 other.v6) → list ≡ other
-same-known None list other some is also = absurd (cc some)
-same-known (Some all) list other some is also = same-list all list other is also
+same-known : (skip_bad : Bool) (known : Option (List ℕ)) (list other : Selected) → IsSome known
+    → IfSome known (λ all. SelectsPast skip_bad all list)
+    → IfSome known (λ all. SelectsPast skip_bad all other) → list ≡ other
+same-known skip_bad None list other some is also = absurd (cc some)
+same-known skip_bad (Some all) list other some is also = same-list skip_bad all list other is also
 
 -- If the bytes of each file are known, the files select at most one list of sets.
-same-files : (bytes : List ℕ → Option (List ℕ)) (files : List (List ℕ))
-    (lists others : List Selected) → AreKnown bytes files → AreFilesOf bytes files lists
-    → AreFilesOf bytes files others → lists ≡ others
-same-files bytes [] [] [] known are are_too = refl
-same-files bytes [] (list ∷ lists) others known are are_too = absurd are
-same-files bytes [] [] (other ∷ others) known are are_too = absurd are_too
-same-files bytes (file ∷ files) [] others known are are_too = absurd are
-same-files bytes (file ∷ files) (list ∷ lists) [] known are are_too = absurd are_too
-same-files bytes (file ∷ files) (list ∷ lists) (other ∷ others) known are are_too =
+same-files : (bytes : List ℕ → Option (List ℕ)) (skip_bad : Bool) (files : List (List ℕ))
+    (lists others : List Selected) → AreKnown bytes files → AreFilesOf bytes skip_bad files lists
+    → AreFilesOf bytes skip_bad files others → lists ≡ others
+same-files bytes skip_bad [] [] [] known are are_too = refl
+same-files bytes skip_bad [] (list ∷ lists) others known are are_too = absurd are
+same-files bytes skip_bad [] [] (other ∷ others) known are are_too = absurd are_too
+same-files bytes skip_bad (file ∷ files) [] others known are are_too = absurd are
+same-files bytes skip_bad (file ∷ files) (list ∷ lists) [] known are are_too = absurd are_too
+same-files bytes skip_bad (file ∷ files) (list ∷ lists) (other ∷ others) known are are_too =
     let Known : List ℕ → Type 0 = λ each. IsSome (bytes each) in
-    let first = same-known (bytes file) list other (All-head Known file files known) are.0
+    let first = same-known skip_bad (bytes file) list other (All-head Known file files known) are.0
     are_too.0 in
-    let more = same-files bytes files lists others (All-tail Known file files known) are.1
+    let more = same-files bytes skip_bad files lists others (All-tail Known file files known) are.1
     are_too.1 in
     λ i. first i ∷ more i
 
@@ -89,13 +98,13 @@ module _ (n : ℕ) (runs others : List Interval)
 
 -- If the bytes of the files are known, an operation on them has at most one text.
 pub one_answer : (bytes : List ℕ → Option (List ℕ)) (combination : Combination)
-    (text other : List ℕ) → AreKnown bytes (map (λ name. name.now) combination.files.now)
+    (text other : List ℕ) → AreKnown bytes (file_names combination.sources)
     → IsCombined bytes combination text → IsCombined bytes combination other → text ≡ other
 one_answer bytes combination text other known is also =
     let form = combination.form in
     let families = combination.families in
     let operation = combination.operation in
-    let lists = same-files bytes (map (λ name. name.now) combination.files.now) is.lists
+    let lists = same-files bytes combination.sources.skip_bad (file_names combination.sources) is.lists
     also.lists known is.are also.are in
     let agree4 = same-made (2 ^ 32) is.v4 also.v4 (selected_by operation) (v4_of is.lists)
     (v4_of also.lists) (ap v4_of lists) is.v4_made also.v4_made in
@@ -146,11 +155,12 @@ same-counts V6 v4 v6 other4 other6 text other agree4 agree6 is also =
     same-count (codes "IPv6") 128 v6 other6 text other agree6 is also
 
 -- If the bytes of the files are known, their count has at most one text.
-pub one_count : (bytes : List ℕ → Option (List ℕ)) (families : Families) (files : List (List ℕ))
-    (text other : List ℕ) → AreKnown bytes files → IsCounted bytes families files text
-    → IsCounted bytes families files other → text ≡ other
-one_count bytes families files text other known is also =
-    let lists = same-files bytes files is.lists also.lists known is.are also.are in
+pub one_count : (bytes : List ℕ → Option (List ℕ)) (families : Families) (skip_bad : Bool)
+    (files : List (List ℕ)) (text other : List ℕ) → AreKnown bytes files
+    → IsCounted bytes families skip_bad files text
+    → IsCounted bytes families skip_bad files other → text ≡ other
+one_count bytes families skip_bad files text other known is also =
+    let lists = same-files bytes skip_bad files is.lists also.lists known is.are also.are in
     let agree4 = same-made (2 ^ 32) is.v4 also.v4 any_of (v4_of is.lists) (v4_of also.lists)
     (ap v4_of lists) is.v4_made also.v4_made in
     let agree6 = same-made (2 ^ 128) is.v6 also.v6 any_of (v6_of is.lists) (v6_of also.lists)
@@ -160,12 +170,12 @@ one_count bytes families files text other known is also =
 -- ---- which lists have an address
 
 -- If the bytes of the files are known, a search in them has one outcome and one text.
-pub one_finding : (bytes : List ℕ → Option (List ℕ)) (address : IpAddr) (files : List (List ℕ))
-    (outcome ending : Outcome) (text other : List ℕ) → AreKnown bytes files
-    → IsFound bytes address files outcome text → IsFound bytes address files ending other
-    → (outcome ≡ ending) × (text ≡ other)
-one_finding bytes address files outcome ending text other known is also =
-    let lists = same-files bytes files is.lists also.lists known is.are also.are in
+pub one_finding : (bytes : List ℕ → Option (List ℕ)) (address : IpAddr) (skip_bad : Bool)
+    (files : List (List ℕ)) (outcome ending : Outcome) (text other : List ℕ)
+    → AreKnown bytes files → IsFound bytes address skip_bad files outcome text
+    → IsFound bytes address skip_bad files ending other → (outcome ≡ ending) × (text ≡ other)
+one_finding bytes address skip_bad files outcome ending text other known is also =
+    let lists = same-files bytes skip_bad files is.lists also.lists known is.are also.are in
     let names = ap (names_with (has_address address) files) lists in (
       is.ends ∙ ap found_outcome names ∙ sym also.ends,
       is.whole ∙ ap names_text names ∙ sym also.whole,

@@ -2,13 +2,13 @@
 use Rattle.std.proofs.Common.{◌≡◌, ℕ, List, [], ◌∷◌, Option, subst, sym}
 use Rattle.std.specs.Io.KnownBytes.{Keeps}
 use Rattle.std.specs.declared.io.Error.{Error}
-use Rattle.std.specs.Prelude.{Err, IsErrAnd, Ok, Result}
+use Rattle.std.specs.Prelude.{Err, IsErrAnd, IsFalse, Ok, Result, false}
 use Rattle.std.proofs.lemmas.List.Elements.{All-cons, All-nil}
 use Rattle.ip_commands.specs.Answer.{Answers}
 use Rattle.ip_commands.specs.CommandLine.{IsRequest, IsWordFault}
-use Rattle.ip_commands.specs.Files.{IsGoodFile, KeepsUnlessWriting}
-use Rattle.ip_commands.specs.Program.{Ends, EndsInFault}
-use Rattle.ip_commands.specs.Request.{IsFirstFaultOf, files_of}
+use Rattle.ip_commands.specs.Files.{AddsReports, IsGoodFile, KeepsUnlessWriting}
+use Rattle.ip_commands.specs.Program.{Ends, EndsInFault, IsTold}
+use Rattle.ip_commands.specs.Request.{IsFirstFaultOf, files_of, skips_bad}
 use Rattle.ip_commands.proofs.lemmas.Appends.{Appends-kept, Keeps-itself}
 use Rattle.ip_commands.proofs.lemmas.Files.{all-good}
 use Rattle.ip_commands.specs.declared.commands.Outcome.{Outcome}
@@ -25,48 +25,51 @@ no-misuse : (bytes : List ℕ → Option (List ℕ)) (request : Request) (misuse
 no-misuse bytes Help misuse first = first
 no-misuse bytes Version misuse first = first
 no-misuse bytes (Combine it) misuse first = first
-no-misuse bytes (Count families files) misuse first = first
-no-misuse bytes (Has address files) misuse first = first
+no-misuse bytes (Count families sources) misuse first = first
+no-misuse bytes (Has address sources) misuse first = first
 no-misuse bytes (Compare diff) misuse first = first
 no-misuse bytes (Check files) misuse first = first
 
-module _ (bytes : List ℕ → Option (List ℕ)) (words : List (List ℕ)) (old new : Option (List ℕ))
-  where
-    -- The first fault in what the words ask for.
-    pub request-fault : (request : Request) (fault : Fault) → IsRequest words request
-        → IsFirstFaultOf bytes request fault → KeepsUnlessWriting fault old new
-        → EndsInFault bytes words old new fault
-    request-fault request (BadLine file bad) asked first keeps = (request, asked, first, keeps)
-    request-fault request (NotRead file error) asked first keeps = (request, asked, first, keeps)
-    request-fault request (NotWritten error) asked first keeps = (request, asked, first, keeps)
-    request-fault request NoMemory asked first keeps = keeps
-    request-fault request (CommandLine misuse) asked first keeps =
-        absurd (no-misuse bytes request misuse first)
+module _ (bytes : List ℕ → Option (List ℕ)) (words : List (List ℕ)) (told : List ℕ)
+    (old new : Option (List ℕ)) where
+  -- The first fault in what the words ask for.
+  pub request-fault : (request : Request) (fault : Fault) → IsRequest words request
+      → IsFirstFaultOf bytes request fault → KeepsUnlessWriting fault old new
+      → (IsFalse (skips_bad request) → told ≡ []) → EndsInFault bytes words told old new fault
+  request-fault request (BadLine file bad) asked first keeps quiet =
+      (request, asked, first, keeps, quiet)
+  request-fault request (NotRead file error) asked first keeps quiet =
+      (request, asked, first, keeps, quiet)
+  request-fault request (NotWritten error) asked first keeps quiet =
+      (request, asked, first, keeps, quiet)
+  request-fault request NoMemory asked first keeps quiet = keeps
+  request-fault request (CommandLine misuse) asked first keeps quiet =
+      absurd (no-misuse bytes request misuse first)
 
-    -- A write that fails after a request was answered is its first fault.
-    pub answered-first : (request : Request) (outcome : Outcome) (error : Error)
-        → Answers bytes request outcome old new
-        → IsFirstFaultOf bytes request (NotWritten error)
-    answered-first Help outcome error answer = All-nil (IsGoodFile bytes)
-    answered-first Version outcome error answer = All-nil (IsGoodFile bytes)
-    answered-first (Combine it) outcome error answer =
-        all-good bytes (files_of (Combine it)) answer.1.1.lists answer.1.1.are
-    answered-first (Count families files) outcome error answer =
-        all-good bytes (files_of (Count families files)) answer.1.1.lists answer.1.1.are
-    answered-first (Has address files) outcome error answer =
-        all-good bytes (files_of (Has address files)) answer.1.lists answer.1.are
-    answered-first (Compare diff) outcome error answer =
-        All-cons (IsGoodFile bytes) diff.old.now (diff.new.now ∷ [])
-        (answer.1.old, answer.1.old_is) (All-cons (IsGoodFile bytes) diff.new.now []
-        (answer.1.new, answer.1.new_is) (All-nil (IsGoodFile bytes)))
-    answered-first (Check files) outcome error answer = tt
+  -- A write that fails after a request was answered is its first fault.
+  pub answered-first : (request : Request) (outcome : Outcome) (error : Error)
+      → Answers bytes request outcome old new
+      → IsFirstFaultOf bytes request (NotWritten error)
+  answered-first Help outcome error answer = All-nil (IsGoodFile bytes false)
+  answered-first Version outcome error answer = All-nil (IsGoodFile bytes false)
+  answered-first (Combine it) outcome error answer =
+      all-good bytes it.sources.skip_bad (files_of (Combine it)) answer.1.lists answer.1.are
+  answered-first (Count families sources) outcome error answer =
+      all-good bytes sources.skip_bad (files_of (Count families sources)) answer.1.1.lists answer.1.1.are
+  answered-first (Has address sources) outcome error answer =
+      all-good bytes sources.skip_bad (files_of (Has address sources)) answer.1.lists answer.1.are
+  answered-first (Compare diff) outcome error answer =
+      let Good = IsGoodFile bytes diff.skip_bad in
+      All-cons Good diff.old.now (diff.new.now ∷ []) (answer.1.old, answer.1.old_is)
+      (All-cons Good diff.new.now [] (answer.1.new, answer.1.new_is) (All-nil Good))
+  answered-first (Check files) outcome error answer = tt
 
-    -- The fault that `?` returns.
-    pub ends-in : (result : Result Outcome Fault) (fault : Fault)
-        → IsErrAnd result (λ other. other ≡ fault) → EndsInFault bytes words old new fault
-        → Ends bytes words old new result
-    ends-in (Ok outcome) fault same is = absurd same
-    ends-in (Err other) fault same is = subst (EndsInFault bytes words old new) (sym same) is
+  -- The fault that `?` returns.
+  pub ends-in : (result : Result Outcome Fault) (fault : Fault)
+      → IsErrAnd result (λ other. other ≡ fault) → EndsInFault bytes words told old new fault
+      → Ends bytes words told old new result
+  ends-in (Ok outcome) fault same is = absurd same
+  ends-in (Err other) fault same is = subst (EndsInFault bytes words told old new) (sym same) is
 
 -- If nothing changes after a request was answered, it was answered.
 pub answers-kept : (bytes : List ℕ → Option (List ℕ)) (request : Request) (outcome : Outcome)
@@ -76,15 +79,13 @@ answers-kept bytes Help outcome old mid new answer keeps =
     (answer.0, Appends-kept old mid new HELP.now answer.1 keeps)
 answers-kept bytes Version outcome old mid new answer keeps =
     (answer.0, Appends-kept old mid new VERSION.now answer.1 keeps)
-answers-kept bytes (Combine it) outcome old mid new answer keeps = (
+answers-kept bytes (Combine it) outcome old mid new answer keeps =
+    (answer.0, answer.1, answer.2, Appends-kept old mid new answer.0 answer.3 keeps)
+answers-kept bytes (Count families sources) outcome old mid new answer keeps = (
   answer.0,
   (answer.1.0, answer.1.1, Appends-kept old mid new answer.1.0 answer.1.2 keeps),
 )
-answers-kept bytes (Count families files) outcome old mid new answer keeps = (
-  answer.0,
-  (answer.1.0, answer.1.1, Appends-kept old mid new answer.1.0 answer.1.2 keeps),
-)
-answers-kept bytes (Has address files) outcome old mid new answer keeps =
+answers-kept bytes (Has address sources) outcome old mid new answer keeps =
     (answer.0, answer.1, Appends-kept old mid new answer.0 answer.2 keeps)
 answers-kept bytes (Compare diff) outcome old mid new answer keeps =
     (answer.0, answer.1, Appends-kept old mid new answer.0 answer.2 keeps)
@@ -93,10 +94,17 @@ answers-kept bytes (Check files) outcome old mid new answer keeps =
 
 -- A fault of the words themselves, before anything was written.
 pub word-fault : (bytes : List ℕ → Option (List ℕ)) (words : List (List ℕ))
-    (known : Option (List ℕ)) (fault : Fault) → IsWordFault words fault
-    → EndsInFault bytes words known known fault
-word-fault bytes words known (BadLine file bad) is = absurd is
-word-fault bytes words known (NotRead file error) is = absurd is
-word-fault bytes words known (NotWritten error) is = absurd is
-word-fault bytes words known NoMemory is = Keeps-itself known
-word-fault bytes words known (CommandLine misuse) is = (is, Keeps-itself known)
+    (told : List ℕ) (known : Option (List ℕ)) (fault : Fault) → IsWordFault words fault
+    → EndsInFault bytes words told known known fault
+word-fault bytes words told known (BadLine file bad) is = absurd is
+word-fault bytes words told known (NotRead file error) is = absurd is
+word-fault bytes words told known (NotWritten error) is = absurd is
+word-fault bytes words told known NoMemory is = Keeps-itself known
+word-fault bytes words told known (CommandLine misuse) is = (is, Keeps-itself known)
+
+-- The reports of a request that were added to no text are the text.
+pub told-first : (bytes : List ℕ → Option (List ℕ)) (request : Request) (old told : List ℕ)
+    → old ≡ [] → AddsReports bytes (skips_bad request) (files_of request) old told
+    → IsTold bytes request told
+told-first bytes request old told none adds =
+    subst (λ each. AddsReports bytes (skips_bad request) (files_of request) each told) none adds

@@ -21,7 +21,7 @@ use Rattle.ip_sets.specs.BlocksLeft.{block_run, block_runs, IsAligned}
 use Rattle.ip_sets.specs.Line.{MeansV4, MeansV6}
 use Rattle.ip_sets.specs.List.{IsGoodLine, IsListOf}
 use Rattle.ip_sets.proofs.lemmas.listing.Selected.{addresses_none}
-use Rattle.ip_sets.proofs.lemmas.listing.WrittenLines.{v4_written, v6_written, AddsRun, WritesFamily}
+use Rattle.ip_sets.proofs.lemmas.listing.WrittenLines.{v4_written, v6_written, AddsRun, IsUnmarkedListOf, WritesFamily}
 use Rattle.ip_commands.specs.Answer.{IsCombined}
 use Rattle.ip_commands.specs.ReadBack.{written_v4, written_v6, ReadsAsCombined}
 use Rattle.ip_commands.specs.Text.{block_line, kept_v4, kept_v6, ranges_text, IsListText, IsSetText}
@@ -181,24 +181,27 @@ module _ (width : ℕ) (text : ℕ → List ℕ) (Selects : List ℕ → Selecti
 -- ---- the lines of a list
 
 -- A text without lines selects nothing.
-nothing : IsListOf [] (members []) (members [])
+nothing : IsUnmarkedListOf [] (members []) (members [])
 nothing = record {
-  good = All-nil IsGoodLine;
-  v4_addresses = addresses_none MeansV4 (members []) (λ number. refl);
-  v6_addresses = addresses_none MeansV6 (members []) (λ number. refl);
+  unmarked = refl;
+  list = record {
+    good = All-nil IsGoodLine;
+    v4_addresses = addresses_none MeansV4 (members []) (λ number. refl);
+    v6_addresses = addresses_none MeansV6 (members []) (λ number. refl);
+  };
 }
 
 -- The text of addresses is a list that selects exactly those addresses.
 pub reads_back : (form : Form) (v4 v6 : List Interval) (text : List ℕ) → IsListText form v4 v6 text
     → IsListOf text (members v4) (members v6)
 reads_back form v4 v6 text is =
-    let last = set_lines 128 v6_text (λ bytes selected. IsListOf bytes (members []) selected)
+    let last = set_lines 128 v6_text (λ bytes selected. IsUnmarkedListOf bytes (members []) selected)
     (v6_written (members [])) (λ number. number) form v6 is.v6_lines [] is.v6_written nothing in
-    let all = set_lines 32 v4_text (λ bytes selected. IsListOf bytes selected (members v6))
+    let all = set_lines 32 v4_text (λ bytes selected. IsUnmarkedListOf bytes selected (members v6))
     (v4_written (members v6)) (λ number. number) form v4 is.v4_lines (is.v6_lines ++ [])
     is.v4_written last in
     subst (λ bytes. IsListOf bytes (members v4) (members v6))
-    (ap (λ more. is.v4_lines ++ more) (append-nil is.v6_lines) ∙ sym is.whole) all
+    (ap (λ more. is.v4_lines ++ more) (append-nil is.v6_lines) ∙ sym is.whole) all.list
 
 -- ---- the answer to an operation
 

@@ -1,11 +1,16 @@
 -- Reports of bad lines, one file after the other.
-use Rattle.std.proofs.Common.{◌≡◌, ◌∙◌, ℕ, ◌+◌, ◌<◌, suc, Bor, List, [], ◌∷◌, ◌++◌, length, map, take, drop, get_or, Option, sym, ap, subst}
+use Rattle.std.proofs.Common.{◌≡◌, ◌∙◌, ℕ, ◌+◌, ◌<◌, suc, Bool, true, false, Bor, List, [], ◌∷◌, ◌++◌, length, map, take, drop, get_or, Option, Some, None, refl, sym, ap, append_assoc, subst, true≢false}
 use Rattle.std.proofs.Common.{drop-cons}
-use Rattle.std.proofs.lemmas.List.{flat_map_more, map-append, map_push, take-append-drop, take_more}
+use Rattle.std.proofs.lemmas.List.{append-nil, flat_map_more, map-append, map_push, take-append-drop, take_more}
 use Rattle.std.proofs.lemmas.Slice.Zip.{all_zipped_more}
 use Rattle.std.specs.List.{AllZip}
-use Rattle.ip_commands.specs.Answer.{AreReported, IsReported}
-use Rattle.ip_commands.specs.Files.{IsCheckFault, IsNotRead}
+use Rattle.std.specs.Prelude.{Err, IfOk, IfSome, Ok, OnOk, Result}
+use Rattle.range_set_blaze.specs.Runs.{members}
+use Rattle.range_set_blaze.specs.Selection.{Selection}
+use Rattle.ip_sets.specs.List.{AreReportsFrom, IsListPast, reports_text, list_lines}
+use Rattle.ip_sets.specs.declared.list.AddressList.{AddressList}
+use Rattle.ip_sets.specs.declared.list.bad_line.BadLine.{BadLine as Report}
+use Rattle.ip_commands.specs.Files.{AddsReport, AddsReports, AddsReportsOf, AreReported, IsCheckFault, IsFaultOf, IsNotRead, IsReported, SelectsPast, selected}
 use Rattle.ip_commands.specs.declared.fault.Fault.{Fault}
 use Rattle.ip_commands.specs.declared.fault.Fault.TheVariants.{BadLine, CommandLine, NoMemory, NotRead, NotWritten}
 use Rattle.ip_commands.proofs.lemmas.Files.{name_of}
@@ -14,6 +19,85 @@ use Rattle.ip_commands.proofs.lemmas.Files.{name_of}
 pub reports-none : (bytes : List ℕ → Option (List ℕ)) (told : List ℕ) → told ≡ []
     → AreReported bytes [] told
 reports-none bytes told none = record { texts = []; each = tt; whole = none }
+
+-- No report was added for no file.
+pub adds-none : (bytes : List ℕ → Option (List ℕ)) (skip_bad : Bool) (old : List ℕ)
+    → AddsReports bytes skip_bad [] old old
+adds-none bytes false old = refl
+adds-none bytes true old = ([], reports-none bytes [] refl, sym (append-nil old))
+
+-- The reports of two files were added, one after the other.
+pub adds-both : (bytes : List ℕ → Option (List ℕ)) (skip_bad : Bool) (file other old mid new : List ℕ)
+    → AddsReport bytes skip_bad file old mid → AddsReport bytes skip_bad other mid new
+    → AddsReports bytes skip_bad (file ∷ other ∷ []) old new
+adds-both bytes false file other old mid new first last = last ∙ first
+adds-both bytes true file other old mid new first last = (
+  first.0 ++ last.0,
+  record {
+    texts = first.0 ∷ last.0 ∷ [];
+    each = (first.1, (last.1, tt));
+    whole = ap (λ each. first.0 ++ each) (sym (append-nil last.0));
+  },
+  last.2 ∙ ap (λ each. each ++ last.0) first.2 ∙ append_assoc old first.0 last.0,
+)
+
+-- If bad lines are passed over, a file that was not read as a list could not be read.
+pub past-fault : (bytes : List ℕ → Option (List ℕ)) (name : List ℕ) (fault : Fault)
+    → IsFaultOf bytes true name fault → IsNotRead name fault
+past-fault bytes name (BadLine file bad) is = absurd (true≢false is.0)
+past-fault bytes name (NotRead file error) is = is
+past-fault bytes name (NotWritten error) is = is
+past-fault bytes name NoMemory is = is
+past-fault bytes name (CommandLine misuse) is = is
+
+-- ---- one list
+
+-- The addresses of the lines that are not bad.
+past-known : {A : Type 0} (known : Option (List ℕ)) (reports : List Report) (list : AddressList A)
+    → IfSome known (λ all. IsListPast all reports (members list.v4) (members list.v6))
+    → IfSome known (λ all. SelectsPast true all (selected list))
+past-known None reports list is = tt
+past-known (Some all) reports list is = (reports, is)
+
+-- The reports of those that are.
+past-reported : (known : Option (List ℕ)) (reports : List Report) (v4 v6 : Selection)
+    → IfSome known (λ all. IsListPast all reports v4 v6)
+    → IfSome known (λ all. AreReportsFrom 1 (list_lines all) reports)
+past-reported None reports v4 v6 is = tt
+past-reported (Some all) reports v4 v6 is = is.reported
+
+module _ {A : Type 0} (known : Option (List ℕ)) (name old new : List ℕ) where
+  -- Whether a list was read past bad lines, and these were reported.
+  abbrev pub ReadsPast : AddressList A → Type 0
+  ReadsPast list = (reports : List Report) × (new ≡ old ++ reports_text name reports)
+      × IfSome known (λ bytes. IsListPast bytes reports (members list.v4) (members list.v6))
+
+  -- The list has the addresses of the other lines.
+  pub past-selects : {E : Type 0} (result : Result (AddressList A) E) → IfOk result ReadsPast
+      → IfOk result (λ list. IfSome known (λ all. SelectsPast true all (selected list)))
+  past-selects (Ok list) has = past-known known has.0 list has.2
+  past-selects (Err error) has = tt
+
+  -- The reports were added.
+  pub past-adds : {E : Type 0} (result : Result (AddressList A) E) → IfOk result ReadsPast
+      → OnOk result (AddsReportsOf known true name old new)
+  past-adds (Ok list) has = (
+    reports_text name has.0,
+    (has.0, refl, past-reported known has.0 (members list.v4) (members list.v6) has.2),
+    has.1,
+  )
+  past-adds (Err error) has = tt
+
+-- If bad lines are not passed over, nothing was added.
+pub stopped-adds : {A E : Type 0} (known : Option (List ℕ)) (skip_bad : Bool) (name old : List ℕ)
+    (result : Result (AddressList A) E) → skip_bad ≡ false
+    → OnOk result (AddsReportsOf known skip_bad name old old)
+stopped-adds known skip_bad name old (Ok list) stops =
+    let same : AddsReportsOf known false name old old = refl in
+    subst (λ each. AddsReportsOf known each name old old) (sym stops) same
+stopped-adds known skip_bad name old (Err error) stops = tt
+
+-- ---- one file after the other
 
 module _ (bytes : List ℕ → Option (List ℕ)) (names : List (Bor (List ℕ))) (at : ℕ)
     (default : Bor (List ℕ)) (within : at < length names) where
@@ -34,6 +118,18 @@ module _ (bytes : List ℕ → Option (List ℕ)) (names : List (Bor (List ℕ))
         whole = grown ∙ ap (λ before. before ++ text) has.whole
             ∙ flat_map_more (λ (part : List ℕ). part) [] has.texts text;
       }
+
+  -- The reports of one more file were added, if bad lines are passed over.
+  pub adds-more : (skip_bad : Bool) (old mid new : List ℕ)
+      → AddsReports bytes skip_bad (map name_of (take at names)) old mid
+      → AddsReport bytes skip_bad (name_of (get_or names at default)) mid new
+      → AddsReports bytes skip_bad (map name_of (take (at + 1) names)) old new
+  adds-more false old mid new before more = more ∙ before
+  adds-more true old mid new before more = (
+    before.0 ++ more.0,
+    reports-more before.0 (before.0 ++ more.0) more.0 before.1 more.1 refl,
+    more.2 ∙ ap (λ each. each ++ more.0) before.2 ∙ append_assoc old before.0 more.0,
+  )
 
   -- A fault of the file that was read next ends the check.
   pub check-fault : (fault : Fault) → IsNotRead (name_of (get_or names at default)) fault

@@ -6,7 +6,6 @@ use Rattle.std.proofs.lemmas.Nat.{pow_pos}
 use Rattle.std.specs.Fmt.{decimal}
 use Rattle.std.specs.List.{flat_map}
 use Rattle.std.specs.Prelude.{All, codes}
-use Rattle.std.specs.Str.Lines.{lines}
 use Rattle.range_set_blaze.specs.Runs.{members, Interval}
 use Rattle.range_set_blaze.specs.Selection.{Selection}
 use Rattle.rsb_integer.proofs.lemmas.Canonical.{canonical-unique}
@@ -17,7 +16,7 @@ use Rattle.ip_sets.specs.Address.{v4_text, v6_text}
 use Rattle.ip_sets.specs.Blocks.{AreMaximalBlocks, AscendsFrom, IsMaximalBlock}
 use Rattle.ip_sets.specs.BlocksLeft.{block_run, block_runs, IsAligned}
 use Rattle.ip_sets.specs.Line.{MeansV4, MeansV6}
-use Rattle.ip_sets.specs.List.{IsListOf}
+use Rattle.ip_sets.specs.List.{IsListOf, list_lines}
 use Rattle.ip_sets.proofs.lemmas.aligned.Powers.{pow-under}
 use Rattle.ip_sets.proofs.lemmas.listing.OneSelection.{one_selection}
 use Rattle.ip_commands.specs.Text.{block_line, ranges_text, IsListText, IsSetText}
@@ -181,9 +180,9 @@ pub same_text : (form : Form) (v4 v6 other4 other6 : List Interval) (text other 
     → IsListText form other4 other6 other → other ≡ text
 same_text form v4 v6 other4 other6 text other is list also =
     let reads = reads_back form v4 v6 text is in
-    let same4 = one_selection MeansV4 (lines text) (members other4) (members v4)
+    let same4 = one_selection MeansV4 (list_lines text) (members other4) (members v4)
     list.v4_addresses reads.v4_addresses in
-    let same6 = one_selection MeansV6 (lines text) (members other6) (members v6)
+    let same6 = one_selection MeansV6 (list_lines text) (members other6) (members v6)
     list.v6_addresses reads.v6_addresses in
     let first = same-set v4_text (λ number. number) 32 form other4 v4 also.v4_lines is.v4_lines
     (2 ^ 32) also.v4_written is.v4_written same4 in

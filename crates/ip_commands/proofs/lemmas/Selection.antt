@@ -1,13 +1,14 @@
 -- How what operations select is written.
-use Rattle.std.proofs.Common.{◌≡◌, ◌∙◌, ℕ, ◌^◌, Bool, true, false, ◌&&◌, cond, nat_lt, zero, List, [], ◌∷◌, ◌++◌, Option, inl, inr, suc, refl, ap, sym, subst, arith}
+use Rattle.std.proofs.Common.{◌≡◌, ◌∙◌, ℕ, ◌+◌, ◌^◌, Bool, true, false, ◌&&◌, ◌||◌, cond, nat_lt, zero, List, [], ◌∷◌, ◌++◌, length, Option, inl, inr, suc, refl, ap, sym, subst, arith, length-append}
 use Rattle.std.proofs.lemmas.Bool.{cases_lt}
 use Rattle.std.proofs.lemmas.Bool.Decides.{nat_tests}
-use Rattle.std.specs.Prelude.{Err, Ok, OnOk, Result}
+use Rattle.std.specs.Prelude.{Err, IfOk, Ok, Result}
 use Rattle.range_set_blaze.specs.Runs.{AreRuns, Interval, from_to, members}
 use Rattle.range_set_blaze.specs.Selection.{Agree, Selection}
 use Rattle.rsb_integer.proofs.lemmas.Members.{members-cons}
 use Rattle.rsb_integer.proofs.lemmas.Runs.{runs-members}
 use Rattle.rsb_streams.specs.Stream.{◌⊆◌, Outcomes}
+use Rattle.ip_sets.specs.List.{has_bytes}
 use Rattle.ip_sets.specs.Operation.{selected_by}
 use Rattle.ip_sets.specs.declared.operations.Operation.{Operation}
 use Rattle.ip_commands.specs.Selection.{WritesSelected}
@@ -75,23 +76,32 @@ agrees n selected runs has rank below =
 
 -- ---- what is written
 
+-- Two texts one after the other have a byte exactly if one of them has.
+either-has : (one other : Bool) (xs ys : List ℕ) → one ≡ has_bytes xs → other ≡ has_bytes ys
+    → (one || other) ≡ has_bytes (xs ++ ys)
+either-has one other [] ys is is_too = rw (is, is_too) refl
+either-has one other (x ∷ xs) ys is is_too = rw is (
+    let many : length (x ∷ xs ++ ys) ≡ length (x ∷ xs) + length ys = length-append (x ∷ xs) ys in
+    grind (arith, nat_tests, many))
+
 module _ (sign : List ℕ) (form : Form) (families : Families) (these those : Selection)
     (first_may last_may : Outcomes)
     (first_only : first_may ⊆ AreRuns (2 ^ 32) these)
     (last_only : last_may ⊆ AreRuns (2 ^ 128) those) where
   -- Whether what was selected was written, in some of the families.
-  abbrev Kept : Families → Option (List ℕ) → Option (List ℕ) → Type 0
-  Kept which old new = WritesSelected sign form which these those old new
+  abbrev Kept : Bool → Families → Option (List ℕ) → Option (List ℕ) → Type 0
+  Kept some which old new = WritesSelected some sign form which these those old new
 
   -- Both families were written.
-  pub both-selected : {E : Type 0} (result : Result (Unit {0}) E) (old mid new : Option (List ℕ))
-      → families ≡ Both → (runs : List Interval) × first_may runs × WritesV4 sign form runs old mid
-      → OnOk result ((runs : List Interval) × last_may runs × WritesV6 sign form runs mid new)
-      → OnOk result (Kept families old new)
-  both-selected (Ok done) old mid new is first last =
+  pub both-selected : (old mid new : Option (List ℕ)) (has_v4 has_v6 some : Bool)
+      → families ≡ Both → (has_v4 || has_v6) ≡ some
+      → (runs : List Interval) × first_may runs × WritesV4 has_v4 sign form runs old mid
+      → (runs : List Interval) × last_may runs × WritesV6 has_v6 sign form runs mid new
+      → Kept some families old new
+  both-selected old mid new has_v4 has_v6 some is either first last =
       let v4 = first.2 in
       let v6 = last.2 in
-      let whole : Kept Both old new = record {
+      let whole : Kept some Both old new = record {
         v4_runs = first.0;
         v6_runs = last.0;
         v4_made = runs-members (2 ^ 32) these first.0 (first_only first.0 first.1);
@@ -99,19 +109,20 @@ module _ (sign : List ℕ) (form : Form) (families : Families) (these those : Se
         text = v4.0 ++ v6.0;
         whole = both-lines sign form first.0 last.0 v4.0 v6.0 v4.1 v6.1;
         written = Appends-then old mid new v4.0 v6.0 v4.2 v6.2;
+        has_line = sym either ∙ either-has has_v4 has_v6 v4.0 v6.0 v4.3 v6.3;
       } in
-      subst (λ which. Kept which old new) (sym is) whole
-  both-selected (Err error) old mid new is first last = tt
+      subst (λ which. Kept some which old new) (sym is) whole
 
   -- Only IPv4 was written.
-  pub v4-selected : {E : Type 0} (result : Result (Unit {0}) E) (old new : Option (List ℕ))
+  pub v4-selected : {E : Type 0} (result : Result Bool E) (old new : Option (List ℕ))
       → families ≡ V4
-      → OnOk result ((runs : List Interval) × first_may runs × WritesV4 sign form runs old new)
-      → OnOk result (Kept families old new)
-  v4-selected (Ok done) old new is first =
+      → IfOk result (λ some. (runs : List Interval) × first_may runs
+      × WritesV4 some sign form runs old new)
+      → IfOk result (λ some. Kept some families old new)
+  v4-selected (Ok some) old new is first =
       let v4 = first.2 in
       let others = some-runs (2 ^ 128) those in
-      let whole : Kept V4 old new = record {
+      let whole : Kept some V4 old new = record {
         v4_runs = first.0;
         v6_runs = others.0;
         v4_made = runs-members (2 ^ 32) these first.0 (first_only first.0 first.1);
@@ -119,19 +130,21 @@ module _ (sign : List ℕ) (form : Form) (families : Families) (these those : Se
         text = v4.0;
         whole = v4-lines sign form first.0 others.0 v4.0 [] v4.1;
         written = v4.2;
+        has_line = v4.3;
       } in
-      subst (λ which. Kept which old new) (sym is) whole
+      subst (λ which. Kept some which old new) (sym is) whole
   v4-selected (Err error) old new is first = tt
 
   -- Only IPv6 was written.
-  pub v6-selected : {E : Type 0} (result : Result (Unit {0}) E) (old new : Option (List ℕ))
+  pub v6-selected : {E : Type 0} (result : Result Bool E) (old new : Option (List ℕ))
       → families ≡ V6
-      → OnOk result ((runs : List Interval) × last_may runs × WritesV6 sign form runs old new)
-      → OnOk result (Kept families old new)
-  v6-selected (Ok done) old new is last =
+      → IfOk result (λ some. (runs : List Interval) × last_may runs
+      × WritesV6 some sign form runs old new)
+      → IfOk result (λ some. Kept some families old new)
+  v6-selected (Ok some) old new is last =
       let v6 = last.2 in
       let others = some-runs (2 ^ 32) these in
-      let whole : Kept V6 old new = record {
+      let whole : Kept some V6 old new = record {
         v4_runs = others.0;
         v6_runs = last.0;
         v4_made = agrees (2 ^ 32) these others.0 others.1;
@@ -139,17 +152,19 @@ module _ (sign : List ℕ) (form : Form) (families : Families) (these those : Se
         text = v6.0;
         whole = v6-lines sign form others.0 last.0 [] v6.0 v6.1;
         written = v6.2;
+        has_line = v6.3;
       } in
-      subst (λ which. Kept which old new) (sym is) whole
+      subst (λ which. Kept some which old new) (sym is) whole
   v6-selected (Err error) old new is last = tt
 
 -- If the operation is the one that was asked for, what was asked for was written.
 pub as-asked : {E : Type 0} (operation which : Operation) (v4 v6 : List Selection) (form : Form)
-    (families : Families) (result : Result (Unit {0}) E) (old new : Option (List ℕ))
+    (families : Families) (result : Result Bool E) (old new : Option (List ℕ))
     → operation ≡ which
-    → OnOk result (WritesSelected [] form families (selected_by which v4) (selected_by which v6) old new)
-    → OnOk result (WritesSelected [] form families (selected_by operation v4)
+    → IfOk result (λ some. WritesSelected some [] form families (selected_by which v4)
+    (selected_by which v6) old new)
+    → IfOk result (λ some. WritesSelected some [] form families (selected_by operation v4)
     (selected_by operation v6) old new)
 as-asked operation which v4 v6 form families result old new is written =
-    subst (λ each. OnOk result (WritesSelected [] form families (selected_by each v4)
+    subst (λ each. IfOk result (λ some. WritesSelected some [] form families (selected_by each v4)
     (selected_by each v6) old new)) (sym is) written

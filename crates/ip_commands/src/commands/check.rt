@@ -1,15 +1,14 @@
 //! The bad lines of files.
 
-ghost use Rattle.std.specs.Prelude.{◌≡◌, ℕ, ◌++◌, IfErr, IfOk, List, OnOk, map};
+ghost use Rattle.std.specs.Prelude.{◌≡◌, ℕ, IfErr, IfOk, List, map};
 ghost use Rattle.std.specs.Io.KnownBytes.{Appends};
-ghost use Rattle.ip_commands.specs.Answer.{AreReported, IsChecked, IsReported, checked_outcome};
-ghost use Rattle.ip_commands.specs.Files.{IsCheckFault, IsNotRead, KeepsUnlessWriting};
+ghost use Rattle.ip_commands.specs.Answer.{IsChecked, checked_outcome};
+ghost use Rattle.ip_commands.specs.Files.{AreReported, IsCheckFault, KeepsUnlessWriting};
 
 use crate::commands::Outcome;
-use crate::commands::lists::not_read;
+use crate::commands::lists::read_file;
 use crate::fault::Fault;
 use crate::inputs::Inputs;
-use ip_sets::{ListFault, read_list_past_bad_lines};
 use std::alloc::Allocator;
 use std::io::Write;
 
@@ -54,31 +53,7 @@ fn reports<'a, A: Allocator + Copy, I: Inputs>(
 {
     let mut told = Vec::new(alloc);
     for file in files {
-        add_reports(alloc, inputs, *file, &mut told)?;
+        read_file(alloc, inputs, *file, true, &mut told)?;
     }
     Ok(told)
-}
-
-// Adds a line for each bad line of a file.
-fn add_reports<'a, A: Allocator + Copy, I: Inputs>(
-    alloc: A,
-    inputs: &I,
-    file: &'a str,
-    told: &mut Vec<u8, A>,
-) -> Result<(), Fault<'a>>
-    ensures reports { OnOk result ((text : List ℕ)
-        × IsReported (I.bytes inputs.now) file.now text
-        × (told.new.items ≡ told.old.items ++ text)) }
-    ensures fault { IfErr result (IsNotRead file.now) }
-{
-    let mut input = match inputs.open(file) {
-        Ok(input) => input,
-        Err(error) => return Err(not_read(file, error)),
-    };
-    match read_list_past_bad_lines(alloc, &mut input, file, told) {
-        Ok(_list) => Ok(()),
-        Err(ListFault::BadLine(_)) => unreachable!(),
-        Err(ListFault::NoMemory) => Err(Fault::NoMemory),
-        Err(ListFault::Io(error)) => Err(not_read(file, error)),
-    }
 }

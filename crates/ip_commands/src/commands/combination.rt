@@ -1,15 +1,23 @@
 //! Operations on the lists of files.
 
-ghost use Rattle.std.specs.Prelude.{◌≡◌, ℕ, ◌^◌, [], IfErr, IfOk, List, OnOk, map};
+ghost use Rattle.std.specs.Prelude.{◌≡◌, ℕ, ◌^◌, [], IfErr, IfOk, IsFalse, List, OnOk, map};
 ghost use Rattle.std.specs.Io.KnownBytes.{Appends};
 ghost use Rattle.range_set_blaze.specs.Runs.{AreRuns, members};
 ghost use Rattle.range_set_blaze.specs.Selection.{Selection};
 ghost use Rattle.rsb_streams.specs.Stream.{◌⊆◌};
+ghost use Rattle.ip_sets.specs.List.{has_bytes};
 ghost use Rattle.ip_sets.specs.Operation.{selected_by};
-ghost use Rattle.ip_commands.specs.Answer.{IsCombined};
-ghost use Rattle.ip_commands.specs.Files.{IsAfterReading, IsFirstFault, KeepsUnlessWriting};
+ghost use Rattle.ip_commands.specs.Answer.{IsCombined, combined_outcome};
+ghost use Rattle.ip_commands.specs.Files.{
+  AddsReports,
+  IsAfterReading,
+  IsFirstFault,
+  KeepsUnlessWriting,
+  file_names,
+};
 ghost use Rattle.ip_commands.specs.Selection.{WritesSelected};
 
+use crate::commands::Outcome;
 use crate::commands::lists::read_lists;
 use crate::fault::Fault;
 use crate::inputs::Inputs;
@@ -21,35 +29,55 @@ use range_set_blaze::{Draw, DrawDisjoint};
 use std::alloc::{AllocError, Allocator};
 use std::io::Write;
 
-/// Writes what an operation selects from the lists of files.
+/// Writes what an operation selects from the lists of files. Returns whether that is a failure. If bad
+/// lines are passed over, it adds a line for each to `told`.
 pub(crate) fn write_combination<'a, A: Allocator + Copy, I: Inputs, W: Write>(
     alloc: A,
     inputs: &I,
     combination: Combination<'a>,
     output: &mut W,
-) -> Result<(), Fault<'a>>
-    ensures answer { OnOk result ((text : List ℕ)
+    told: &mut Vec<u8, A>,
+) -> Result<Outcome, Fault<'a>>
+    ensures answer { IfOk result (λ outcome. (text : List ℕ)
         × IsCombined (I.bytes inputs.now) combination.entry text
+        × (outcome ≡ combined_outcome combination.entry.fail_empty text)
         × Appends (W.contents output.old) (W.contents output.new) text) }
+    ensures told { OnOk result (AddsReports (I.bytes inputs.now)
+        combination.entry.sources.skip_bad (file_names combination.entry.sources)
+        told.old.items told.new.items) }
     ensures first { IfErr result (IsFirstFault (I.bytes inputs.now)
-        (map (λ name. name.now) combination.entry.files.now)) }
+        combination.entry.sources.skip_bad (file_names combination.entry.sources)) }
+    ensures quiet { IsFalse combination.entry.sources.skip_bad
+        → told.new.items ≡ told.old.items }
     ensures keeps { IfErr result (λ fault.
         KeepsUnlessWriting fault (W.contents output.old) (W.contents output.new)) }
 {
-    let lists = read_lists(alloc, inputs, combination.files)?;
-    write_operation(alloc, output, &lists, combination)?;
-    Ok(())
+    let lists = read_lists(alloc, inputs, combination.sources, told)?;
+    let some = write_operation(alloc, output, &lists, combination)?;
+    Ok(outcome(combination.fail_empty, some))
 }
 
-// Writes what an operation selects from lists. Nothing was written if allocation fails, since all
-// that is needed is allocated before the first write.
+// Returns how an operation ends that writes a text, which may be empty.
+fn outcome(fail_empty: bool, some: bool) -> Outcome
+    ensures { (text : List ℕ) → some ≡ has_bytes text
+        → result ≡ combined_outcome fail_empty text }
+{
+    if fail_empty && !some {
+        return Outcome::Empty;
+    }
+    Outcome::Done
+}
+
+// Writes what an operation selects from lists. Returns whether there is a line. Nothing was written if
+// allocation fails, since all that is needed is allocated before the first write.
 fn write_operation<'a, A: Allocator + Copy, W: Write>(
     alloc: A,
     output: &mut W,
     lists: &[AddressList<A>],
     combination: Combination<'a>,
-) -> Result<(), Fault<'a>>
-    ensures answer { OnOk result (WritesSelected [] combination.entry.form combination.entry.families
+) -> Result<bool, Fault<'a>>
+    ensures answer { IfOk result (λ some. WritesSelected some [] combination.entry.form
+        combination.entry.families
         (selected_by combination.entry.operation (map members (map (λ list. list.v4) lists.now)))
         (selected_by combination.entry.operation (map members (map (λ list. list.v6) lists.now)))
         (W.contents output.old) (W.contents output.new)) }
@@ -83,20 +111,20 @@ fn write_operation<'a, A: Allocator + Copy, W: Write>(
     }
 }
 
-// Writes the addresses of two ready streams, if both were made.
+// Writes the addresses of two ready streams, if both were made. Returns whether there is a line.
 fn write_made<'a, W: Write, F: DrawDisjoint<u32>, S: DrawDisjoint<u128>>(
     output: &mut W,
     v4: Result<F, AllocError>,
     v6: Result<S, AllocError>,
     combination: Combination<'a>,
-) -> Result<(), Fault<'a>>
+) -> Result<bool, Fault<'a>>
     requires v4 { IfOk v4 F.can_draw }
     requires v6 { IfOk v6 S.can_draw }
     ensures answer { (these those : Selection)
         → IfOk v4 (λ stream. F.may_give stream ⊆ AreRuns (2 ^ 32) these)
         → IfOk v6 (λ stream. S.may_give stream ⊆ AreRuns (2 ^ 128) those)
-        → OnOk result (WritesSelected [] combination.entry.form combination.entry.families
-        these those (W.contents output.old) (W.contents output.new)) }
+        → IfOk result (λ some. WritesSelected some [] combination.entry.form
+        combination.entry.families these those (W.contents output.old) (W.contents output.new)) }
     ensures keeps { IfErr result (λ fault.
         KeepsUnlessWriting fault (W.contents output.old) (W.contents output.new)) }
     ensures fault { IfErr result IsAfterReading }
@@ -106,6 +134,6 @@ fn write_made<'a, W: Write, F: DrawDisjoint<u32>, S: DrawDisjoint<u128>>(
         form: combination.form,
         families: combination.families,
     };
-    write_streams(output, v4?, v6?, style)?;
-    Ok(())
+    let some = write_streams(output, v4?, v6?, style)?;
+    Ok(some)
 }

@@ -8,24 +8,29 @@ ghost use Rattle.std.specs.Prelude.{
   ◌^◌,
   IfErr,
   IfSome,
+  IsFalse,
   List,
   OnOk,
   codes,
   decimal,
   length,
-  map,
   min,
 };
 ghost use Rattle.std.specs.Io.KnownBytes.{Appends};
 ghost use Rattle.range_set_blaze.specs.Runs.{Interval, IsCanonicalIn, members};
 ghost use Rattle.ip_sets.specs.Blocks.{AreMaximalBlocks};
 ghost use Rattle.ip_commands.specs.Answer.{AreCounts, IsCountText, IsCounted};
-ghost use Rattle.ip_commands.specs.Files.{IsFirstFault, KeepsUnlessWriting};
+ghost use Rattle.ip_commands.specs.Files.{
+  AddsReports,
+  IsFirstFault,
+  KeepsUnlessWriting,
+  file_names,
+};
 
 use crate::commands::lists::read_lists;
 use crate::fault::Fault;
 use crate::inputs::Inputs;
-use crate::request::Families;
+use crate::request::{Families, Sources};
 use ip_sets::{Address, AddressList, AddressSet, IntoBlocks, Operation, combine};
 use range_set_blaze::UIntPlusOne;
 use std::alloc::Allocator;
@@ -35,23 +40,29 @@ use std::io::{self, Write};
 // The number of all IPv6 addresses, which is 2^128.
 const ALL_V6: &str = "340282366920938463463374607431768211456";
 
-/// Writes how many addresses and blocks of each family are in at least one list.
+/// Writes how many addresses and blocks of each family are in at least one list. If bad lines are
+/// passed over, it adds a line for each to `told`.
 pub(crate) fn write_counts<'a, A: Allocator + Copy, I: Inputs, W: Write>(
     alloc: A,
     inputs: &I,
     families: Families,
-    files: &'a [&'a str],
+    sources: Sources<'a>,
     output: &mut W,
+    told: &mut Vec<u8, A>,
 ) -> Result<(), Fault<'a>>
     ensures answer { OnOk result ((text : List ℕ)
-        × IsCounted (I.bytes inputs.now) families (map (λ name. name.now) files.now) text
+        × IsCounted (I.bytes inputs.now) families sources.entry.skip_bad
+        (file_names sources.entry) text
         × Appends (W.contents output.old) (W.contents output.new) text) }
-    ensures first { IfErr result (IsFirstFault (I.bytes inputs.now)
-        (map (λ name. name.now) files.now)) }
+    ensures told { OnOk result (AddsReports (I.bytes inputs.now) sources.entry.skip_bad
+        (file_names sources.entry) told.old.items told.new.items) }
+    ensures first { IfErr result (IsFirstFault (I.bytes inputs.now) sources.entry.skip_bad
+        (file_names sources.entry)) }
+    ensures quiet { IsFalse sources.entry.skip_bad → told.new.items ≡ told.old.items }
     ensures keeps { IfErr result (λ fault.
         KeepsUnlessWriting fault (W.contents output.old) (W.contents output.new)) }
 {
-    let lists = read_lists(alloc, inputs, files)?;
+    let lists = read_lists(alloc, inputs, sources, told)?;
     let list = combine(alloc, Operation::Union, &lists)?;
     write_list_counts(output, &list, families)?;
     Ok(())

@@ -7,6 +7,7 @@ ghost use Rattle.std.specs.Prelude.{
   ◌≤◌,
   IfErr,
   IfOk,
+  IsFalse,
   IsTrue,
   List,
   OnOk,
@@ -17,7 +18,12 @@ ghost use Rattle.std.specs.Io.KnownBytes.{Appends};
 ghost use Rattle.range_set_blaze.specs.Runs.{members};
 ghost use Rattle.range_set_blaze.specs.Selection.{Agree, difference};
 ghost use Rattle.ip_commands.specs.Answer.{AreSame, IsDiffOutcome, IsDiffText, IsDiffed};
-ghost use Rattle.ip_commands.specs.Files.{IsFirstFault, KeepsUnlessWriting, selected};
+ghost use Rattle.ip_commands.specs.Files.{
+  AddsReports,
+  IsFirstFault,
+  KeepsUnlessWriting,
+  selected,
+};
 ghost use Rattle.ip_commands.specs.Request.{diff_files};
 ghost use Rattle.ip_commands.specs.Selection.{WritesSelected};
 
@@ -32,23 +38,28 @@ use range_set_blaze::{DrawDisjoint, SortedDisjoint};
 use std::alloc::Allocator;
 use std::io::{self, Write};
 
-/// Writes what one list has and a newer one lacks, and then what only the newer one has.
+/// Writes what one list has and a newer one lacks, and then what only the newer one has. If bad lines
+/// are passed over, it adds a line for each to `told`.
 pub(crate) fn write_diff<'a, A: Allocator + Copy, I: Inputs, W: Write>(
     alloc: A,
     inputs: &I,
     diff: Diff<'a>,
     output: &mut W,
+    told: &mut Vec<u8, A>,
 ) -> Result<Outcome, Fault<'a>>
     ensures answer { IfOk result (λ outcome. (text : List ℕ)
         × IsDiffed (I.bytes inputs.now) diff.entry outcome text
         × Appends (W.contents output.old) (W.contents output.new) text) }
-    ensures first { IfErr result (IsFirstFault (I.bytes inputs.now)
+    ensures told { OnOk result (AddsReports (I.bytes inputs.now) diff.entry.skip_bad
+        (diff_files diff.entry) told.old.items told.new.items) }
+    ensures first { IfErr result (IsFirstFault (I.bytes inputs.now) diff.entry.skip_bad
         (diff_files diff.entry)) }
+    ensures quiet { IsFalse diff.entry.skip_bad → told.new.items ≡ told.old.items }
     ensures keeps { IfErr result (λ fault.
         KeepsUnlessWriting fault (W.contents output.old) (W.contents output.new)) }
 {
-    let old = read_file(alloc, inputs, diff.old)?;
-    let new = read_file(alloc, inputs, diff.new)?;
+    let old = read_file(alloc, inputs, diff.old, diff.skip_bad, told)?;
+    let new = read_file(alloc, inputs, diff.new, diff.skip_bad, told)?;
     write_both(output, &old, &new, diff)?;
     Ok(outcome(diff.families, &old, &new))
 }
@@ -75,18 +86,20 @@ fn write_both<'a, W: Write, A: Allocator>(
         form: diff.form,
         families: diff.families,
     };
-    write_difference(output, new, old, put_in)
+    write_difference(output, new, old, put_in)?;
+    Ok(())
 }
 
-// Writes the addresses that one list has and another lacks. It does not allocate.
+// Writes the addresses that one list has and another lacks. Returns whether there is a line. It does
+// not allocate.
 fn write_difference<'a, W: Write, A: Allocator>(
     output: &mut W,
     one: &AddressList<A>,
     other: &AddressList<A>,
     style: Style<'a>,
-) -> io::Result<()>
+) -> io::Result<bool>
     requires { length style.sign.now ≤ 1 }
-    ensures { OnOk result (WritesSelected style.entry.sign.now style.entry.form
+    ensures { IfOk result (λ some. WritesSelected some style.entry.sign.now style.entry.form
         style.entry.families
         (difference (members one.now.v4) (members other.now.v4))
         (difference (members one.now.v6) (members other.now.v6))

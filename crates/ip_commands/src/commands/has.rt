@@ -1,6 +1,6 @@
 //! Which lists have an address.
 
-ghost use Rattle.std.specs.Prelude.{◌≡◌, ℕ, IfErr, IfOk, List, OnOk, map};
+ghost use Rattle.std.specs.Prelude.{◌≡◌, ℕ, IfErr, IfOk, IsFalse, List, OnOk, map};
 ghost use Rattle.std.specs.Io.KnownBytes.{Appends};
 ghost use Rattle.ip_commands.specs.Answer.{
   IsFound,
@@ -9,35 +9,47 @@ ghost use Rattle.ip_commands.specs.Answer.{
   names_text,
   names_with,
 };
-ghost use Rattle.ip_commands.specs.Files.{IsFirstFault, KeepsUnlessWriting, selected};
+ghost use Rattle.ip_commands.specs.Files.{
+  AddsReports,
+  IsFirstFault,
+  KeepsUnlessWriting,
+  file_names,
+  selected,
+};
 
 use crate::commands::Outcome;
 use crate::commands::lists::read_lists;
 use crate::fault::Fault;
 use crate::inputs::Inputs;
+use crate::request::Sources;
 use ip_sets::AddressList;
 use std::alloc::Allocator;
 use std::io::{self, Write};
 use std::net::IpAddr;
 
-/// Writes the names of the files whose lists have an address, each on a line.
+/// Writes the names of the files whose lists have an address, each on a line. If bad lines are passed
+/// over, it adds a line for each to `told`.
 pub(crate) fn write_names<'a, A: Allocator + Copy, I: Inputs, W: Write>(
     alloc: A,
     inputs: &I,
     address: IpAddr,
-    files: &'a [&'a str],
+    sources: Sources<'a>,
     output: &mut W,
+    told: &mut Vec<u8, A>,
 ) -> Result<Outcome, Fault<'a>>
     ensures answer { IfOk result (λ outcome. (text : List ℕ) × IsFound (I.bytes inputs.now)
-        address (map (λ name. name.now) files.now) outcome text
+        address sources.entry.skip_bad (file_names sources.entry) outcome text
         × Appends (W.contents output.old) (W.contents output.new) text) }
-    ensures first { IfErr result (IsFirstFault (I.bytes inputs.now)
-        (map (λ name. name.now) files.now)) }
+    ensures told { OnOk result (AddsReports (I.bytes inputs.now) sources.entry.skip_bad
+        (file_names sources.entry) told.old.items told.new.items) }
+    ensures first { IfErr result (IsFirstFault (I.bytes inputs.now) sources.entry.skip_bad
+        (file_names sources.entry)) }
+    ensures quiet { IsFalse sources.entry.skip_bad → told.new.items ≡ told.old.items }
     ensures keeps { IfErr result (λ fault.
         KeepsUnlessWriting fault (W.contents output.old) (W.contents output.new)) }
 {
-    let lists = read_lists(alloc, inputs, files)?;
-    let outcome = write_names_with(output, address, files, &lists)?;
+    let lists = read_lists(alloc, inputs, sources, told)?;
+    let outcome = write_names_with(output, address, sources.files, &lists)?;
     Ok(outcome)
 }
 

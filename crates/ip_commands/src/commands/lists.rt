@@ -1,63 +1,103 @@
 //! The lists of files.
 
-ghost use Rattle.std.specs.Prelude.{◌≡◌, ◌≢◌, ℕ, IfErr, IfOk, List, map};
+ghost use Rattle.std.specs.Prelude.{◌≡◌, ◌≢◌, ℕ, Err, IfErr, IfOk, IfSome, IsFalse, List, OnOk, map};
 ghost use Rattle.std.specs.IoError.{error_kind};
 ghost use Rattle.std.specs.declared.io.ErrorKind.{ErrorKind};
+ghost use Rattle.ip_sets.specs.List.{IsFirstBadLine};
 ghost use Rattle.ip_commands.specs.Files.{
+  AddsReport,
+  AddsReports,
+  AddsReportsOf,
   AreFilesOf,
   IsFaultOf,
   IsFileOf,
   IsFirstFault,
   IsNotRead,
+  SelectsPast,
+  file_names,
   selected,
 };
 ghost use Rattle.ip_commands.specs.declared.fault.Fault.{Fault};
 
 use crate::fault::Fault;
 use crate::inputs::Inputs;
-use ip_sets::{AddressList, ListFault, read_list};
+use crate::request::Sources;
+use ip_sets::{AddressList, BadLine, ListFault, read_list, read_list_past_bad_lines};
 use std::alloc::Allocator;
-use std::io::{self, ErrorKind};
+use std::io::{self, BufRead, ErrorKind};
 
-/// Reads the lists of some files, in order, up to the first fault.
+/// Reads the lists of some files, in order, up to the first fault. If bad lines are passed over, it
+/// adds a line for each to `told`.
 pub(crate) fn read_lists<'a, A: Allocator + Copy, I: Inputs>(
     alloc: A,
     inputs: &I,
-    files: &'a [&'a str],
+    sources: Sources<'a>,
+    told: &mut Vec<u8, A>,
 ) -> Result<Vec<AddressList<A>, A>, Fault<'a>>
-    ensures lists { IfOk result (λ lists. AreFilesOf (I.bytes inputs.now)
-        (map (λ name. name.now) files.now) (map selected lists.items)) }
-    ensures first { IfErr result
-        (IsFirstFault (I.bytes inputs.now) (map (λ name. name.now) files.now)) }
+    ensures lists { IfOk result (λ lists. AreFilesOf (I.bytes inputs.now) sources.entry.skip_bad
+        (file_names sources.entry) (map selected lists.items)) }
+    ensures told { OnOk result (AddsReports (I.bytes inputs.now) sources.entry.skip_bad
+        (file_names sources.entry) told.old.items told.new.items) }
+    ensures first { IfErr result (IsFirstFault (I.bytes inputs.now) sources.entry.skip_bad
+        (file_names sources.entry)) }
+    ensures quiet { IsFalse sources.entry.skip_bad → told.new.items ≡ told.old.items }
 {
+    let files = sources.files;
     let mut lists = Vec::new(alloc);
     for file in files {
-        let list = read_file(alloc, inputs, *file)?;
+        let list = read_file(alloc, inputs, *file, sources.skip_bad, told)?;
         lists.push(list)?;
     }
     Ok(lists)
 }
 
-/// Reads the list of a file.
+/// Reads the list of a file. If bad lines are passed over, it adds a line for each to `told`.
 pub(crate) fn read_file<'a, A: Allocator + Copy, I: Inputs>(
     alloc: A,
     inputs: &I,
     file: &'a str,
+    skip_bad: bool,
+    told: &mut Vec<u8, A>,
 ) -> Result<AddressList<A>, Fault<'a>>
     ensures list { IfOk result (λ list.
-        IsFileOf (I.bytes inputs.now) file.now (selected list)) }
-    ensures fault { IfErr result (IsFaultOf (I.bytes inputs.now) file.now) }
+        IsFileOf (I.bytes inputs.now) skip_bad file.now (selected list)) }
+    ensures told { OnOk result (AddsReport (I.bytes inputs.now) skip_bad file.now
+        told.old.items told.new.items) }
+    ensures fault { IfErr result (IsFaultOf (I.bytes inputs.now) skip_bad file.now) }
+    ensures quiet { IsFalse skip_bad → told.new.items ≡ told.old.items }
 {
     let mut input = match inputs.open(file) {
         Ok(input) => input,
         Err(error) => return Err(not_read(file, error)),
     };
-    match read_list(alloc, &mut input) {
+    match read_input(alloc, &mut input, file, skip_bad, told) {
         Ok(list) => Ok(list),
         Err(ListFault::BadLine(bad)) => Err(Fault::BadLine { file, bad }),
         Err(ListFault::NoMemory) => Err(Fault::NoMemory),
         Err(ListFault::Io(error)) => Err(not_read(file, error)),
     }
+}
+
+// Reads a list up to its first bad line, or past all of them.
+fn read_input<A: Allocator + Copy, R: BufRead>(
+    alloc: A,
+    input: &mut R,
+    file: &str,
+    skip_bad: bool,
+    told: &mut Vec<u8, A>,
+) -> Result<AddressList<A>, ListFault>
+    ensures list { IfOk result (λ list. IfSome (R.remaining input.old) (λ all.
+        SelectsPast skip_bad all (selected list))) }
+    ensures told { OnOk result (AddsReportsOf (R.remaining input.old) skip_bad file.now
+        told.old.items told.new.items) }
+    ensures bad_line { (bad : BadLine) → result ≡ Err (ListFault.BadLine bad)
+        → IsFalse skip_bad × IfSome (R.remaining input.old) (λ all. IsFirstBadLine all bad) }
+    ensures quiet { IsFalse skip_bad → told.new.items ≡ told.old.items }
+{
+    if skip_bad {
+        return read_list_past_bad_lines(alloc, input, file, told);
+    }
+    read_list(alloc, input)
 }
 
 /// Returns the fault of a file that could not be read.

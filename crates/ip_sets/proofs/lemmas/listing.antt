@@ -5,6 +5,7 @@ pub mod Joined
 pub mod Known
 pub mod LineEnds
 pub mod OneSelection
+pub mod OrderMark
 pub mod Pairs
 pub mod Reading
 pub mod Reports

@@ -2,10 +2,12 @@ pub mod Addresses
 pub mod Around
 pub mod Below
 pub mod Blocks
+pub mod Brackets
 pub mod Bytes
 pub mod Groups
 pub mod Lengths
 pub mod Lines
+pub mod Masks
 pub mod Means
 pub mod Octets
 pub mod OneMeaning

@@ -18,7 +18,7 @@ pub(crate) fn biggest_at(first: u128, last: u128) -> u32
 }
 
 /// Returns the exponent of the greatest power of 2 that is at most `more + 1`.
-fn greatest_power(more: u128) -> u32
+pub(crate) fn greatest_power(more: u128) -> u32
     ensures fits { 2 ^ result ≤ more + 1 }
     ensures greatest { more + 1 < 2 * 2 ^ result }
 {

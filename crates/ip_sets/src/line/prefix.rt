@@ -1,6 +1,8 @@
 //! The length of a prefix: how many of its first bits a block gives.
 
 ghost use Rattle.std.specs.Prelude.{◌≡◌, ◌^◌, ◌<◌, ◌≤◌, SomeIff, decimal};
+ghost use Rattle.std.specs.Char.{is_ascii_digit};
+ghost use Rattle.std.specs.List.{list_all};
 ghost use Rattle.std.specs.Str.Parse.{IsNumeral, digits_value};
 ghost use Rattle.ip_sets.specs.LineParts.{Reads};
 
@@ -33,4 +35,11 @@ pub(crate) fn digits(text: &[u8]) -> Option<u32>
         Ok(text) => text.parse().ok(),
         Err(_) => None,
     }
+}
+
+/// Returns whether each byte of a text is a digit.
+pub(crate) fn has_only_digits(text: &[u8]) -> bool
+    ensures { result ≡ list_all is_ascii_digit text.now }
+{
+    text.iter().all(|byte| byte.is_ascii_digit())
 }

@@ -5,10 +5,12 @@ ghost use Rattle.std.specs.Char.{is_ascii_alphabetic, is_ascii_digit};
 ghost use Rattle.std.specs.List.{list_all, list_any};
 ghost use Rattle.ip_sets.specs.LineParts.{parts};
 ghost use Rattle.ip_sets.specs.Reason.{
+  IsEnd,
   IsFact,
   IsLong,
-  IsMask,
   IsMixed,
+  IsNoncontiguous,
+  IsNoncontiguousIn,
   IsReason,
   IsReversed,
   IsReversedIn,
@@ -17,6 +19,7 @@ ghost use Rattle.ip_sets.specs.Reason.{
   exceeds,
   has_leading_zero,
   has_number_above,
+  is_bracket,
   is_decimal,
   is_name,
   is_name_byte,
@@ -25,26 +28,28 @@ ghost use Rattle.ip_sets.specs.Reason.{
 };
 
 use crate::line::family::Family;
+use crate::line::mask::mask_length;
 use crate::line::parts::{Parts, parts_of, trimmed};
-use crate::line::prefix::digits;
+use crate::line::prefix::{digits, has_only_digits};
+use crate::line::range::one_or_block;
 use std::fmt;
 
 /// A reason why a line is neither blank nor an address, a block or a range.
 #[derive(Clone, Copy, Debug, PartialEq, Eq)]
 pub enum Reason {
-    /// It has a `[`.
+    /// It has a `[` or a `]`, but is not an IPv6 address between them.
     Brackets,
     /// It has a `%`, as before the zone of an address.
     Zone,
     /// It is a range whose last address is before its first one.
     Reversed,
-    /// It is a range from an address of one family to one of the other.
+    /// It is a range from an address or a block of one family to one of the other.
     TwoFamilies,
     /// It is an IPv4 address with a length above 32.
     LongV4,
     /// It is an IPv6 address with a length above 128.
     LongV6,
-    /// It is an IPv4 address with a mask.
+    /// It is an address with a mask that is not contiguous: it has a one after a zero.
     Mask,
     /// It is written in decimal, and a number has a leading zero. Some programs read that as octal.
     LeadingZero,
@@ -67,7 +72,7 @@ impl fmt::Display for Reason {
             Reason::TwoFamilies => write!(f, "a range from one family to the other"),
             Reason::LongV4 => write!(f, "a length above 32"),
             Reason::LongV6 => write!(f, "a length above 128"),
-            Reason::Mask => write!(f, "a mask, not a length"),
+            Reason::Mask => write!(f, "a mask that is not contiguous"),
             Reason::LeadingZero => write!(f, "a leading zero, which may mean octal"),
             Reason::Above255 => write!(f, "a number above 255"),
             Reason::Name => write!(f, "a name, not an address"),
@@ -80,7 +85,7 @@ impl fmt::Display for Reason {
 pub(crate) fn reason_of(text: &[u8]) -> Reason
     ensures { IsReason result text.now }
 {
-    if has(text, b'[') {
+    if has_bracket(text) {
         return Reason::Brackets;
     }
     if has(text, b'%') {
@@ -95,6 +100,13 @@ pub(crate) fn reason_of(text: &[u8]) -> Reason
     word_reason(text)
 }
 
+// Returns whether a text has a `[` or a `]`.
+fn has_bracket(text: &[u8]) -> bool
+    ensures { result ≡ list_any is_bracket text.now }
+{
+    text.iter().any(|byte| *byte == b'[' || *byte == b']')
+}
+
 // Returns whether a text has a byte.
 fn has(text: &[u8], byte: u8) -> bool
     ensures { result ≡ list_any (λ each. each == byte) text.now }
@@ -104,7 +116,7 @@ fn has(text: &[u8], byte: u8) -> bool
 
 // ---- ranges
 
-// Returns what is wrong with a range of two addresses, if the text is one.
+// Returns what is wrong with a range between two addresses or blocks, if the text is one.
 fn range_reason(text: &[u8]) -> Option<Reason>
     ensures found { IfSome result (λ reason. IsReason reason text.now) }
     ensures not_reversed { IfNone result (¬ OnTwo IsReversed (parts 45 text.now)) }
@@ -122,7 +134,8 @@ fn range_reason(text: &[u8]) -> Option<Reason>
     None
 }
 
-// Returns whether two texts write addresses of one family, and the second is below the first.
+// Returns whether two texts write addresses or blocks of one family, and the second ends before the
+// first starts.
 fn is_reversed(first: &[u8], last: &[u8]) -> bool
     ensures { IsTrue result ↔ IsReversed first.now last.now }
 {
@@ -131,37 +144,39 @@ fn is_reversed(first: &[u8], last: &[u8]) -> bool
     is_reversed_in::<u32>(first, last) || is_reversed_in::<u128>(first, last)
 }
 
-// Returns whether two texts write addresses of a family, and the second is below the first.
+// Returns whether two texts write addresses or blocks of a family, and the second ends before the
+// first starts.
 fn is_reversed_in<F: Family>(first: &[u8], last: &[u8]) -> bool
-    ensures { IsTrue result ↔ IsReversedIn F.is_address first.now last.now }
+    ensures { IsTrue result ↔ IsReversedIn F.width F.is_address first.now last.now }
 {
-    match (F::parse(first), F::parse(last)) {
-        (Some(first), Some(last)) => last.number() < first.number(),
+    match (one_or_block::<F>(first), one_or_block::<F>(last)) {
+        (Some(first), Some(last)) => last.end().number() < first.start().number(),
         _ => false,
     }
 }
 
-// Returns whether two texts write addresses of different families.
+// Returns whether two texts write addresses or blocks of different families.
 fn is_mixed(first: &[u8], last: &[u8]) -> bool
     ensures { IsTrue result ↔ IsMixed first.now last.now }
 {
     let first = trimmed(first);
     let last = trimmed(last);
-    write::<u32, u128>(first, last) || write::<u128, u32>(first, last)
+    are_ends::<u32, u128>(first, last) || are_ends::<u128, u32>(first, last)
 }
 
-// Returns whether two texts write an address of one family and one of another.
-fn write<F: Family, G: Family>(first: &[u8], last: &[u8]) -> bool
-    ensures { IsTrue result ↔ (Writes F.is_address first.now × Writes G.is_address last.now) }
+// Returns whether two texts write an address or a block of one family and one of another.
+fn are_ends<F: Family, G: Family>(first: &[u8], last: &[u8]) -> bool
+    ensures { IsTrue result ↔ (IsEnd F.width F.is_address first.now
+        × IsEnd G.width G.is_address last.now) }
 {
-    writes::<F>(first) && writes::<G>(last)
+    is_end::<F>(first) && is_end::<G>(last)
 }
 
-// Returns whether a text writes an address of a family.
-fn writes<F: Family>(text: &[u8]) -> bool
-    ensures { IsTrue result ↔ Writes F.is_address text.now }
+// Returns whether a text writes an address or a block of a family.
+fn is_end<F: Family>(text: &[u8]) -> bool
+    ensures { IsTrue result ↔ IsEnd F.width F.is_address text.now }
 {
-    F::parse(text).is_some()
+    one_or_block::<F>(text).is_some()
 }
 
 // ---- blocks
@@ -182,10 +197,34 @@ fn block_reason(text: &[u8]) -> Option<Reason>
     if writes::<u128>(address) && exceeds(length, 128) {
         return Some(Reason::LongV6);
     }
-    if write::<u32, u32>(address, length) {
+    if is_noncontiguous(address, length) {
         return Some(Reason::Mask);
     }
     None
+}
+
+// Returns whether a text writes an address of a family.
+fn writes<F: Family>(text: &[u8]) -> bool
+    ensures { IsTrue result ↔ Writes F.is_address text.now }
+{
+    F::parse(text).is_some()
+}
+
+// Returns whether two texts write addresses of one family, and the second is the mask of no length.
+fn is_noncontiguous(address: &[u8], mask: &[u8]) -> bool
+    ensures { IsTrue result ↔ IsNoncontiguous address.now mask.now }
+{
+    is_noncontiguous_in::<u32>(address, mask) || is_noncontiguous_in::<u128>(address, mask)
+}
+
+// Returns whether two texts write addresses of a family, and the second is the mask of no length.
+fn is_noncontiguous_in<F: Family>(address: &[u8], mask: &[u8]) -> bool
+    ensures { IsTrue result ↔ IsNoncontiguousIn F.width F.is_address address.now mask.now }
+{
+    match (F::parse(address), F::parse(mask)) {
+        (Some(_), Some(mask)) => mask_length(mask).is_none(),
+        _ => false,
+    }
 }
 
 // Returns whether a text is a decimal number above another.
@@ -199,13 +238,6 @@ fn exceeds(text: &[u8], most: u32) -> bool
         Some(number) => number > most,
         None => true,
     }
-}
-
-// Returns whether each byte of a text is a digit.
-fn has_only_digits(text: &[u8]) -> bool
-    ensures { result ≡ list_all is_ascii_digit text.now }
-{
-    text.iter().all(|byte| byte.is_ascii_digit())
 }
 
 // ---- words

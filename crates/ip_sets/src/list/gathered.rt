@@ -30,12 +30,13 @@ ghost use Rattle.ip_sets.specs.Gathering.{
 };
 ghost use Rattle.ip_sets.specs.Line.{IsLine, MeansV4, MeansV6, content};
 ghost use Rattle.ip_sets.specs.LineParts.{Reads};
-ghost use Rattle.ip_sets.specs.List.{AddsAddressesOf, IsReportOf};
+ghost use Rattle.ip_sets.specs.List.{AddsAddressesOf, IsReportOf, without_order_mark};
 
 use crate::line::{Line, first_line, parse_line};
 use crate::list::AddressList;
 use crate::list::bad_line::BadLine;
 use crate::list::fault::ListFault;
+use crate::list::order_mark::without_order_mark;
 use crate::set::AddressSet;
 use std::alloc::{AllocError, Allocator};
 use std::io::{self, BufRead, ErrorKind};
@@ -75,6 +76,30 @@ impl<A: Allocator> Gathered<A> {
         v4.ranges_len();
         v6.ranges_len();
         AddressList { v4, v6 }
+    }
+
+    /// Reads the first line, without the byte order mark that it may begin with. Nothing was read
+    /// before, and the buffer is empty.
+    pub(crate) fn read_first_line<R: BufRead>(
+        &mut self,
+        input: &mut R,
+        line: &mut Vec<u8, A>,
+    ) -> Result<(), ListFault>
+        requires unread { (bytes : List ℕ) → AreGatheredBefore [] bytes bytes self.old }
+        requires empty { line.old.items ≡ [] }
+        ensures gathered { (bytes : List ℕ) → R.remaining input.old ≡ Some bytes
+            → OnOk result
+            (AreGatheredTo [] (without_order_mark bytes) (R.remaining input.new) self.new) }
+        ensures bad_line { (bytes : List ℕ) (bad : BadLine) → R.remaining input.old ≡ Some bytes
+            → result ≡ Err (ListFault.BadLine bad)
+            → StopsPast [] bad (without_order_mark bytes) (R.remaining input.new) self.new }
+    {
+        input.read_until(b'\n', line)?;
+        let first = without_order_mark(line);
+        if first.is_empty() {
+            return Ok(());
+        }
+        self.add_line(parse_line(first), first)
     }
 
     /// Reads to the end of the input, or past the next bad line. The buffer is for a line that is

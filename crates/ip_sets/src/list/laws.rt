@@ -1,9 +1,15 @@
 //! Laws of lists. Each function does nothing, and its clauses are the law.
 
-ghost use Rattle.std.specs.Prelude.{◌≡◌, ◌↔◌, ℕ, List};
+ghost use Rattle.std.specs.Prelude.{◌≡◌, ◌↔◌, ℕ, ◌++◌, IsFalse, List};
 ghost use Rattle.range_set_blaze.specs.Selection.{Selection};
 ghost use Rattle.ip_sets.specs.declared.list.bad_line.BadLine.{BadLine};
-ghost use Rattle.ip_sets.specs.List.{IsFirstBadLine, IsListOf, contents};
+ghost use Rattle.ip_sets.specs.List.{
+  IsFirstBadLine,
+  IsListOf,
+  contents,
+  has_order_mark,
+  order_mark,
+};
 
 /// A list selects at most one set of addresses of each family, or it has at most one first bad
 /// line, but not both.
@@ -23,4 +29,10 @@ pub fn list_selects_one()
 pub fn comments_select_nothing()
     ensures { (bytes other : List ℕ) (v4 v6 : Selection) → contents bytes ≡ contents other
         → IsListOf bytes v4 v6 → IsListOf other v4 v6 }
+{}
+
+/// A byte order mark at the start of a list selects nothing, and makes no line bad.
+pub fn order_mark_selects_nothing()
+    ensures { (bytes : List ℕ) (v4 v6 : Selection) → IsFalse (has_order_mark bytes)
+        → IsListOf bytes v4 v6 → IsListOf (order_mark ++ bytes) v4 v6 }
 {}

@@ -6,7 +6,7 @@ use std::alloc::Global;
 use std::process::ExitCode;
 
 /// The files of the rows.
-pub(crate) static FILES: [(&str, &[u8]); 8] = [
+pub(crate) static FILES: [(&str, &[u8]); 9] = [
     (
         "a",
         b"10.0.0.0/30\n10.0.0.4 - 10.0.0.6 # tail\n2001:db8::/127\n",
@@ -21,13 +21,14 @@ pub(crate) static FILES: [(&str, &[u8]); 8] = [
     ("odd bits", b"10.1.2.3/8\n2001:db8::1/32\n"),
     ("bad", b"10.0.0.1\n10.0.0\n10.0.0.0/33\n"),
     ("-", b"10.9.8.7\n"),
+    ("only v6", b"2001:db8::2\n"),
 ];
 
 /// A command line, its exit status, and what it writes.
 type Row = (&'static [&'static str], u8, &'static str);
 
 /// Commands without a fault.
-static ROWS: [Row; 55] = [
+static ROWS: [Row; 71] = [
     (
         &["union", "a", "b"],
         0,
@@ -179,8 +180,29 @@ static ROWS: [Row; 55] = [
          bad:2: not an address, block or range: 10.0.0\n\
          bad:3: a length above 32: 10.0.0.0/33\n",
     ),
+    (&["union", "--fail-empty", "empty"], 1, ""),
+    (&["common", "--fail-empty", "a", "empty"], 1, ""),
+    (&["except", "a", "all", "--fail-empty"], 1, ""),
+    (&["odd", "--fail-empty", "b", "b"], 1, ""),
+    (&["at-least", "--fail-empty", "3", "a", "b"], 1, ""),
+    (&["complement", "--fail-empty", "--ranges", "all"], 1, ""),
+    // An address in a family that is not written does not count.
+    (&["union", "--fail-empty", "-4", "only v6"], 1, ""),
+    (&["union", "--fail-empty", "-6", "-"], 1, ""),
+    (&["union", "--fail-empty", "only v6"], 0, "2001:db8::2\n"),
+    (&["union", "--fail-empty", "-"], 0, "10.9.8.7\n"),
+    (&["common", "--fail-empty", "a", "b"], 0, "10.0.0.6\n"),
+    (
+        &["count", "--fail-empty", "-4", "empty"],
+        0,
+        "IPv4 addresses: 0, blocks: 0\n",
+    ),
+    (&["has", "--fail-empty", "10.0.0.6", "a"], 0, "a\n"),
+    (&["diff", "--fail-empty", "a", "a"], 0, ""),
+    (&["check", "--fail-empty", "empty"], 0, ""),
     (&["-h"], 0, HELP),
     (&["--help"], 0, HELP),
+    (&["--help", "union", "-", "-"], 0, HELP),
     (&["--version", "unite", "--help"], 0, HELP),
     (&["union", "--version"], 0, VERSION),
 ];

@@ -11,7 +11,7 @@ use std::process::ExitCode;
 type Row = (&'static [&'static str], u8, &'static str);
 
 /// Commands with a fault.
-static ROWS: [Row; 30] = [
+static ROWS: [Row; 40] = [
     (
         &["union", "a", "bad", "none"],
         2,
@@ -118,6 +118,52 @@ static ROWS: [Row; 30] = [
         "ip_lists: unknown option: -x\n",
     ),
     (&["--", "--help"], 64, "ip_lists: unknown command: --help\n"),
+    (
+        &["odd", "-", "-"],
+        64,
+        "ip_lists: standard input (-) more than once\n",
+    ),
+    (
+        &["union", "-", "a", "none", "-4", "--", "-"],
+        64,
+        "ip_lists: standard input (-) more than once\n",
+    ),
+    (
+        &["except", "a", "-", "-"],
+        64,
+        "ip_lists: standard input (-) more than once\n",
+    ),
+    (
+        &["at-least", "2", "-", "-", "-"],
+        64,
+        "ip_lists: standard input (-) more than once\n",
+    ),
+    (
+        &["at-least", "-", "-", "-"],
+        64,
+        "ip_lists: not a number of lists: -\n",
+    ),
+    (
+        &["count", "-", "bad", "-"],
+        64,
+        "ip_lists: standard input (-) more than once\n",
+    ),
+    (
+        &["has", "10.9.8.7", "-", "-"],
+        64,
+        "ip_lists: standard input (-) more than once\n",
+    ),
+    (&["has", "-", "-"], 64, "ip_lists: not an address: -\n"),
+    (
+        &["diff", "-", "-"],
+        64,
+        "ip_lists: standard input (-) more than once\n",
+    ),
+    (
+        &["check", "-", "-"],
+        64,
+        "ip_lists: standard input (-) more than once\n",
+    ),
 ];
 
 /// Whether the program ends with this status and this line, and writes nothing else.
@@ -138,6 +184,32 @@ fn each_fault_is_reported(rt: HostRuntime) {
     for row in &ROWS {
         assert!(rt; reports(rt.alloc(), row), "{:?}", row.0);
     }
+}
+
+/// Whether standard input is refused behind as many files between its names. The result is `None` if
+/// the words could not be gathered.
+fn is_refused_behind(alloc: Global, files: usize) -> Option<bool> {
+    let inputs = Held {
+        alloc,
+        files: &FILES,
+        good: usize::MAX,
+    };
+    let mut words = Vec::new(alloc);
+    words.push("union").ok()?;
+    words.push("-").ok()?;
+    for _ in 0..files {
+        words.push("empty").ok()?;
+    }
+    words.push("-").ok()?;
+    let mut output = Vec::new(alloc);
+    let mut errors = Vec::new(alloc);
+    let code = start(alloc, &words, &inputs, &mut output, &mut errors);
+    Some(code == ExitCode::from(64) && output.is_empty() && !errors.is_empty())
+}
+
+#[test]
+fn standard_input_is_refused_behind_fifty_thousand_files(rt: HostRuntime) {
+    assert!(rt; is_refused_behind(rt.alloc(), 50_000) == Some(true));
 }
 
 /// Whether a read of `a` that fails after the given number of bytes is reported, and nothing is

@@ -12,13 +12,14 @@ ghost use Rattle.std.specs.Prelude.{
   Some,
   bytes_eq,
   codes,
-  map,
 };
 ghost use Rattle.ip_commands.specs.Answer.{IsCombined};
+ghost use Rattle.ip_commands.specs.Files.{file_names};
 ghost use Rattle.ip_commands.specs.ReadBack.{AreKnown, ReadsAsCombined};
 
 use ip_commands::{
-    Combination, Families, Fault, Form, Inputs, Request, answer_is_unique, answer_reads_back, run,
+    Combination, Families, Fault, Form, Inputs, Request, Sources, answer_is_unique,
+    answer_reads_back, run,
 };
 use ip_sets::Operation;
 use std::alloc::Global;
@@ -53,15 +54,21 @@ fn selects_exactly<'a, I: Inputs>(
     inputs: &I,
     combination: Combination<'a>,
 ) -> Result<Vec<u8>, Fault<'a>>
-    requires known { AreKnown (I.bytes inputs.now)
-        (map (λ name. name.now) combination.files.now) }
+    requires known { AreKnown (I.bytes inputs.now) (file_names combination.sources) }
     ensures text { IfOk result (λ output. (text : List ℕ)
         → IsCombined (I.bytes inputs.now) combination.entry text → output.items ≡ text) }
     ensures reads { IfOk result (λ output.
         ReadsAsCombined (I.bytes inputs.now) combination.entry output.items) }
 {
     let mut output = Vec::new(alloc);
-    run(alloc, inputs, Request::Combine(combination), &mut output)?;
+    let mut told = Vec::new(alloc);
+    run(
+        alloc,
+        inputs,
+        Request::Combine(combination),
+        &mut output,
+        &mut told,
+    )?;
     answer_is_unique();
     answer_reads_back();
     Ok(output)
@@ -77,7 +84,11 @@ fn is_difference(alloc: Global, text: &[u8]) -> bool {
         operation: Operation::Except,
         form: Form::Ranges,
         families: Families::Both,
-        files: &["a", "b"],
+        fail_empty: false,
+        sources: Sources {
+            files: &["a", "b"],
+            skip_bad: false,
+        },
     };
     match selects_exactly(alloc, &inputs, combination) {
         Ok(output) => output.as_slice() == text,

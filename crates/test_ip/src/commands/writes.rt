@@ -53,7 +53,7 @@ fn counted(alloc: Global, text: &[u8], form: &str) -> Option<Counter> {
         files: &files,
         good: usize::MAX,
     };
-    let words: &[&str] = &["union", form, "a"];
+    let words: &[&str] = &["union", form, "--fail-empty", "a"];
     let mut output = Counter {
         writes: 0,
         bytes: 0,

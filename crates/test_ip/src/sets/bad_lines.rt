@@ -17,7 +17,7 @@ fn report(alloc: Global, text: &[u8]) -> Option<BadLine> {
 
 /// Bad lines, and why they are bad.
 static REASONS: [(&str, Reason); 42] = [
-    ("[2001:db8::1]", Reason::Brackets),
+    ("[2001:db8::1]:80", Reason::Brackets),
     ("[1.2.3.4]:80", Reason::Brackets),
     ("fe80::1%eth0", Reason::Zone),
     ("1.2.3.4%1", Reason::Zone),
@@ -31,7 +31,7 @@ static REASONS: [(&str, Reason); 42] = [
     ("1.2.3.4/4294967304", Reason::LongV4),
     ("::/129", Reason::LongV6),
     ("::/99999999999999999999", Reason::LongV6),
-    ("10.0.0.0/255.0.0.0", Reason::Mask),
+    ("10.0.0.0/255.0.255.0", Reason::Mask),
     ("010.0.0.1", Reason::LeadingZero),
     ("10.0.0.00", Reason::LeadingZero),
     ("10.0.0.0/08", Reason::LeadingZero),
@@ -52,7 +52,7 @@ static REASONS: [(&str, Reason); 42] = [
     ("1.2.3.4/8/8", Reason::Other),
     ("1.2.3.4 1.2.3.5", Reason::Other),
     ("1.2.3.4,1.2.3.5", Reason::Other),
-    ("1.2.3.0/24-1.2.4.0/24", Reason::Other),
+    ("1.2.3.0/24-1.2.4.0/24-1.2.5.0", Reason::Other),
     ("1.2.3.4-1.2.3.5-1.2.3.6", Reason::Other),
     ("::g", Reason::Other),
     ("1::2::3", Reason::Other),
@@ -62,7 +62,7 @@ static REASONS: [(&str, Reason); 42] = [
 ];
 
 /// Whether a line is bad for a reason.
-fn is_bad_for(alloc: Global, line: &str, reason: Reason) -> bool {
+pub(crate) fn is_bad_for(alloc: Global, line: &str, reason: Reason) -> bool {
     match report(alloc, line.as_bytes()) {
         Some(bad) => bad.number == 1 && bad.reason == reason,
         None => false,
@@ -91,7 +91,7 @@ static SHOWN: [(&[u8], &str); 8] = [
         b"1234567890123456789012345678901234567890123456789012345678901",
         "123456789012345678901234567890123456789012345678901234567890...",
     ),
-    (b"\xef\xbb\xbf10.0.0.1\r", "\\xef\\xbb\\xbf10.0.0.1"),
+    (b" \xef\xbb\xbf10.0.0.1\r", "\\xef\\xbb\\xbf10.0.0.1"),
 ];
 
 /// Whether this is shown of a line.

@@ -104,7 +104,6 @@ fn a_fault_makes_a_line_bad(rt: HostRuntime) {
         "1.2.3.4-",
         "-1.2.3.4",
         "1.2.3.4-1.2.3.5-1.2.3.6",
-        "1.2.3.0/24-1.2.4.0",
         "1.2.3.4 five",
         "1.2.3.4 1.2.3.5",
         "1.2.3.4-::1",
@@ -147,7 +146,6 @@ fn a_fault_makes_an_ipv6_line_bad(rt: HostRuntime) {
         "::/129",
         "::2-::1",
         "::1.2.3",
-        "[::1]",
         "fe80::1%1",
     ] {
         assert!(rt; is_bad(line), "at {line}");

@@ -44,6 +44,7 @@ enum Call {
     FromRanges,
     ReadList,
     ReadListPastBadLines,
+    ReadMarkedList,
     V4Ranges,
     V6Ranges,
     /// The operation of a row on the three lists.
@@ -61,7 +62,7 @@ impl Call {
 }
 
 /// All calls except those of the rows.
-static CALLS: [Call; 19] = [
+static CALLS: [Call; 20] = [
     Call::V4Text,
     Call::V4BlockText,
     Call::V4RangeText,
@@ -73,6 +74,7 @@ static CALLS: [Call; 19] = [
     Call::FromRanges,
     Call::ReadList,
     Call::ReadListPastBadLines,
+    Call::ReadMarkedList,
     Call::V4Ranges,
     Call::V6Ranges,
     Call::Read(Reading::ParseLine),
@@ -111,6 +113,16 @@ fn reads_past_right(heap: &Heap) -> Result<bool, AllocError> {
     let mut input = "0.0.0.4\nx\n1.2.3 # and a comment\n0.0.0.5".as_bytes();
     match read_list_past_bad_lines(heap, &mut input, "it", &mut told) {
         Ok(list) => Ok(list.v4.len() == 2 && told.len() == 76),
+        Err(ListFault::NoMemory) => Err(AllocError),
+        Err(_) => Ok(false),
+    }
+}
+
+/// Returns whether a list with a byte order mark is read right.
+fn reads_marked_right(heap: &Heap) -> Result<bool, AllocError> {
+    let mut input: &[u8] = b"\xef\xbb\xbf0.0.0.4/255.255.255.254\n[::1] # one\n";
+    match read_list(heap, &mut input) {
+        Ok(list) => Ok(list.v4.len() == 2 && list.v6.contains(1)),
         Err(ListFault::NoMemory) => Err(AllocError),
         Err(_) => Ok(false),
     }
@@ -170,6 +182,7 @@ fn is_right<'a>(
         Call::FromRanges => makes_right(heap, lists)?,
         Call::ReadList => reads_right(heap)?,
         Call::ReadListPastBadLines => reads_past_right(heap)?,
+        Call::ReadMarkedList => reads_marked_right(heap)?,
         Call::V4Ranges => v4_ranges(heap, lists)?.len() == 3,
         Call::V6Ranges => v6_ranges(heap, lists)?.len() == 3,
         Call::Combine(row) => {

@@ -1,4 +1,4 @@
-use Rattle.std.proofs.Common.{◌∙◌, ◌-◌, ◌∷◌, drop, length, sym, ap, take}
+use Rattle.std.proofs.Common.{◌∙◌, ◌-◌, ◌∷◌, drop, length, refl, sym, ap, take}
 use Rattle.std.specs.Prelude.{codes}
 use Rattle.ip_commands.proofs.lemmas.CommandLine.{first-rest, some-left, some-mapped}
 use Rattle.ip_commands.proofs.arguments.has.Goals as goal
@@ -11,6 +11,7 @@ returns-in-Ok-clause-request c =
       ap (λ words. codes "has" ∷ words) parts,
       c.in-Ok.ensures.value,
       some-left _ (sym c.if-is_empty.false ∙ c.is_empty.ensures),
+      refl,
     )
 
 -- The word is not an address.

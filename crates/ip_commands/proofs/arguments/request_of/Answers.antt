@@ -12,7 +12,7 @@ pub returns-in-union : goal.returns-in-union
 returns-in-union c =
     let parts = first-rest (λ word. word.now) c.args.operands.now _ c.in-len1-up.len_at_least
     ∙ ap (λ command. command ∷ map (λ word. word.now) (rest c.args.operands.now)) c.in-union.is in
-    of-operation c.args.options.form c.args.options.families _ (codes "union")
+    of-operation c.args.options _ (codes "union")
     (rest c.args.operands.now) c.combination.result parts refl
     (c.combination.ensures.request _ parts) c.combination.ensures.misuse
 
@@ -21,7 +21,7 @@ pub returns-in-common : goal.returns-in-common
 returns-in-common c =
     let parts = first-rest (λ word. word.now) c.args.operands.now _ c.in-len1-up.len_at_least
     ∙ ap (λ command. command ∷ map (λ word. word.now) (rest c.args.operands.now)) c.in-common.is in
-    of-operation c.args.options.form c.args.options.families _ (codes "common")
+    of-operation c.args.options _ (codes "common")
     (rest c.args.operands.now) c.combination-in-common.result parts refl
     (c.combination-in-common.ensures.request _ parts) c.combination-in-common.ensures.misuse
 
@@ -30,7 +30,7 @@ pub returns-in-odd : goal.returns-in-odd
 returns-in-odd c =
     let parts = first-rest (λ word. word.now) c.args.operands.now _ c.in-len1-up.len_at_least
     ∙ ap (λ command. command ∷ map (λ word. word.now) (rest c.args.operands.now)) c.in-odd.is in
-    of-operation c.args.options.form c.args.options.families _ (codes "odd")
+    of-operation c.args.options _ (codes "odd")
     (rest c.args.operands.now) c.combination-in-odd.result parts refl
     (c.combination-in-odd.ensures.request _ parts)
     c.combination-in-odd.ensures.misuse
@@ -41,7 +41,7 @@ returns-in-complement c =
     let parts = first-rest (λ word. word.now) c.args.operands.now _ c.in-len1-up.len_at_least
     ∙ ap (λ command. command ∷ map (λ word. word.now) (rest c.args.operands.now))
     c.in-complement.is in
-    of-operation c.args.options.form c.args.options.families _ (codes "complement")
+    of-operation c.args.options _ (codes "complement")
     (rest c.args.operands.now) c.combination-in-complement.result parts refl
     (c.combination-in-complement.ensures.request _ parts) c.combination-in-complement.ensures.misuse
 
@@ -50,7 +50,7 @@ pub returns-in-diff : goal.returns-in-diff
 returns-in-diff c =
     let parts = first-rest (λ word. word.now) c.args.operands.now _ c.in-len1-up.len_at_least
     ∙ ap (λ command. command ∷ map (λ word. word.now) (rest c.args.operands.now)) c.in-diff.is in
-    of-command c.args.options.form c.args.options.families _
+    of-command c.args.options _
     (codes "diff" ∷ map (λ word. word.now) (rest c.args.operands.now)) c.diff.result parts
     c.diff.ensures.request c.diff.ensures.misuse
 

@@ -5,16 +5,11 @@ use Rattle.ip_commands.proofs.lemmas.Files.{passed-on}
 use Rattle.ip_commands.proofs.commands.run.Goals as goal
 
 -- A fault of an operation.
-pub returns-in_err-write_combination-in-Combine-clause-first :
-    goal.returns-in_err-write_combination-in-Combine-clause-first
-returns-in_err-write_combination-in-Combine-clause-first g c =
+pub returns-in-Combine-clause-first : goal.returns-in-Combine-clause-first
+returns-in-Combine-clause-first g c =
     let bytes = g.I.Inputs.bytes c.args.inputs.now in
-    let fault = c.in_err-write_combination-in-Combine.field-0.0 in
-    passed-on c.from_residual-in_err-write_combination-in-Combine.result fault
-    (IsFirstFaultOf bytes c.args.request)
-    c.from_residual-in_err-write_combination-in-Combine.ensures.1
-    (subst (λ each. IsFirstFaultOf bytes each fault) (sym c.in-Combine.is)
-    c.in_err-write_combination-in-Combine.ensures.first)
+    subst (λ each. IfErr c.write_combination.result (IsFirstFaultOf bytes each))
+    (sym c.in-Combine.is) c.write_combination.ensures.first
 
 -- A fault of `count`.
 pub returns-in_err-write_counts-in-Count-clause-first :

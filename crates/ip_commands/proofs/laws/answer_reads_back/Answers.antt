@@ -9,5 +9,5 @@ returns-clause-text c = combined_reads_back
 -- What was written is all that the writer holds.
 pub returns-clause-whole : goal.returns-clause-whole
 returns-clause-whole c = λ bytes combination outcome text is.
-    subst (ReadsAsCombined bytes combination) (sym is.1.2)
-    (combined_reads_back bytes combination is.1.0 is.1.1)
+    subst (ReadsAsCombined bytes combination) (sym is.3)
+    (combined_reads_back bytes combination is.0 is.1)

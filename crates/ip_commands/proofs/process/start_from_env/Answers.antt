@@ -1,4 +1,4 @@
-use Rattle.std.proofs.Common.{inl, inr, map, refl}
+use Rattle.std.proofs.Common.{[], inl, inr, map, refl}
 use Rattle.std.specs.Prelude.{Err}
 use Rattle.std.specs.String.{string_bytes}
 use Rattle.ip_commands.proofs.lemmas.Appends.{Keeps-itself}
@@ -9,6 +9,7 @@ pub returns-in-Err : goal.returns-in-Err
 returns-in-Err g c = record {
   ends = (
     Err c.in-Err.fault,
+    [],
     inr (record {
       fault = c.in-Err.fault;
       ends = refl;
@@ -16,7 +17,7 @@ returns-in-Err g c = record {
       keeps = Keeps-itself (g.W.Write.contents c.args.output.now);
     }),
     c.finish.ensures.status,
-    c.finish.ensures.quiet,
+    λ _. c.finish.ensures.quiet,
   );
 }
 
@@ -24,4 +25,4 @@ returns-in-Err g c = record {
 pub returns-in-Ok : goal.returns-in-Ok
 returns-in-Ok g c =
     let it = c.start.ensures.ends in
-    record { ends = (it.0, inl (map string_bytes c.deref.result.now, it.1), it.2, it.3) }
+    record { ends = (it.0, it.1, inl (map string_bytes c.deref.result.now, it.2), it.3, it.4) }

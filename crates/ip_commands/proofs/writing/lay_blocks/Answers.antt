@@ -3,19 +3,26 @@ use Rattle.std.specs.List.{flat_map}
 use Rattle.ip_sets.specs.BlocksLeft.{block_runs, blocks_may_give}
 use Rattle.ip_sets.proofs.lemmas.aligned.Left.{all-aligned, all-given}
 use Rattle.ip_commands.specs.Text.{block_line}
-use Rattle.ip_commands.proofs.lemmas.Laid.{lays-item, lays-nothing}
+use Rattle.ip_commands.proofs.lemmas.Laid.{lays-item, lays-nothing, left-some}
+use Rattle.ip_commands.proofs.lemmas.Lines.{some-block}
 use Rattle.ip_commands.proofs.writing.lay_blocks.Goals as goal
 
 -- No block was laid at first.
 pub loop-block-init : goal.loop-block-init
-loop-block-init g c = lays-nothing _ _
+loop-block-init g c = record { laid = lays-nothing _ _; leaves = λ _. refl }
 
 -- One more block was laid.
 pub loop-block-preserved : goal.loop-block-preserved
 loop-block-preserved g c =
-    lays-item (λ block. c.args.sign.now
-    ++ block_line g.T.AddressText.text g.T.Integer.rank g.T.Address.width block) _ _ _ _ _ _ _
-    c.loop-block.yielded _ c.loop-block.invariant c.in_ok-make_room.ensures.laid c.lay_block.ensures
+    let text = g.T.AddressText.text in
+    let rank = g.T.Integer.rank in
+    let width = g.T.Address.width in record {
+      laid = lays-item (λ block. c.args.sign.now ++ block_line text rank width block) _ _ _ _ _ _ _
+          c.loop-block.yielded _ c.loop-block.invariant.laid c.in_ok-make_room.ensures.laid
+          c.lay_block.ensures;
+      leaves = left-some _ _ _ _ c.lay_block.ensures
+          (some-block c.args.sign.now text rank width c.in-Some.block);
+    }
 
 -- The blocks that came are those of what the stream may give.
 pub returns : goal.returns
@@ -45,6 +52,7 @@ returns g c =
             whole = refl;
           };
         },
-        c.loop-block.invariant,
+        c.loop-block.invariant.laid,
+        c.loop-block.invariant.leaves,
       ),
     )

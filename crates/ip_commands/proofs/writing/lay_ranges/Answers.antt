@@ -4,8 +4,8 @@ use Rattle.range_set_blaze.specs.Rank.{interval_of}
 use Rattle.range_set_blaze.specs.Runs.{Interval}
 use Rattle.range_set_blaze.proofs.lemmas.gathering.OneByOne.{taken-ordered}
 use Rattle.ip_commands.specs.Text.{range_line, signed_ranges}
-use Rattle.ip_commands.proofs.lemmas.Laid.{lays-item, lays-nothing}
-use Rattle.ip_commands.proofs.lemmas.Lines.{line-of-run}
+use Rattle.ip_commands.proofs.lemmas.Laid.{lays-item, lays-nothing, left-some}
+use Rattle.ip_commands.proofs.lemmas.Lines.{line-of-run, some-range}
 use Rattle.ip_commands.proofs.writing.lay_ranges.Goals as goal
 
 -- Nothing was taken at first.
@@ -17,6 +17,7 @@ loop-range-init g c = (
     finite = (g.met.I.Draw.sorted c.args.ranges c.requires.ready).ends;
     given = λ rest may. may;
     laid = lays-nothing _ _;
+    leaves = λ _. refl;
   },
 )
 
@@ -45,6 +46,7 @@ loop-range-preserved g c =
             (c.lay_range.ensures
             ∙ ap (λ line. c.make_room.new.page.items ++ (c.args.sign.now ++ line))
             (line-of-run text g.T.Integer.rank c.in-Some.range ordered));
+        leaves = left-some _ _ _ _ c.lay_range.ensures (some-range c.args.sign.now text _ _);
       },
     )
 
@@ -65,5 +67,6 @@ returns g c =
           written = refl;
         },
         c.loop-range.invariant.1.laid,
+        c.loop-range.invariant.1.leaves,
       ),
     )

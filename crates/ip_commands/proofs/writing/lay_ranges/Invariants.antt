@@ -3,7 +3,7 @@
 use Rattle.std.proofs.Common.{List, ◌++◌}
 use Rattle.std.specs.Iterator.{IsFinite, size}
 use Rattle.range_set_blaze.specs.Runs.{Interval}
-use Rattle.ip_commands.specs.Page.{Lays}
+use Rattle.ip_commands.specs.Page.{Lays, LeavesSome}
 use Rattle.ip_commands.specs.Text.{signed_ranges}
 use Rattle.ip_commands.proofs.writing.lay_ranges.Given as goal
 
@@ -15,6 +15,7 @@ invariant-loop-range g l = (taken : List Interval) × record {
       → g.I.Draw.may_give l.fn.ranges (taken ++ rest);
   laid : Lays (g.W.Write.contents l.initial.output) (g.W.Write.contents l.output)
       l.initial.page.items l.page.items (signed_ranges l.sign g.T.AddressText.text taken);
+  leaves : LeavesSome l.page.items (signed_ranges l.sign g.T.AddressText.text taken);
 }
 
 abbrev pub decreases-loop-range : goal.decreases-loop-range

@@ -4,11 +4,10 @@ use Rattle.std.proofs.lemmas.Bool.{cases_lt, lt-ltb}
 use Rattle.std.proofs.lemmas.List.{nil_from_length}
 use Rattle.std.proofs.lemmas.List.Elements.{All-contains, All-contains_itself}
 use Rattle.std.specs.Prelude.{All, Any, Contains, slice_index_or}
-use Rattle.std.specs.Str.Lines.{lines}
 use Rattle.range_set_blaze.specs.Selection.{Selection}
 use Rattle.ip_sets.specs.declared.line.Line.TheVariants.{Nothing, V4, V6}
 use Rattle.ip_sets.specs.Line.{MeansV4, MeansV6, content}
-use Rattle.ip_sets.specs.List.{HasAddress, IsGoodLine, IsListOf, contents, has_bytes}
+use Rattle.ip_sets.specs.List.{HasAddress, IsGoodLine, IsListOf, contents, has_bytes, list_lines}
 use Rattle.ip_sets.proofs.lemmas.listing.Reports.{same_meaning}
 use Rattle.ip_sets.proofs.lemmas.listing.Selected.{empty_v4, empty_v6}
 
@@ -124,18 +123,18 @@ has_v6 number line other is h = record {
 pub same_list : (bytes other : List ℕ) (v4 v6 : Selection) → contents bytes ≡ contents other
     → IsListOf bytes v4 v6 → IsListOf other v4 v6
 same_list bytes other v4 v6 same h = record {
-  good = all_good (lines bytes) (lines other) same h.good;
+  good = all_good (list_lines bytes) (list_lines other) same h.good;
   v4_addresses = λ number. (
-    (λ is. twin_of (lines bytes) (lines other) same (HasAddress MeansV4 number) (has_v4 number)
+    (λ is. twin_of (list_lines bytes) (list_lines other) same (HasAddress MeansV4 number) (has_v4 number)
         (λ line empty has. empty_v4 line empty number has) ((h.v4_addresses number).0 is)),
-    (λ some. (h.v4_addresses number).1 (twin_of (lines other) (lines bytes) (sym same)
+    (λ some. (h.v4_addresses number).1 (twin_of (list_lines other) (list_lines bytes) (sym same)
         (HasAddress MeansV4 number) (has_v4 number)
         (λ line empty has. empty_v4 line empty number has) some)),
   );
   v6_addresses = λ number. (
-    (λ is. twin_of (lines bytes) (lines other) same (HasAddress MeansV6 number) (has_v6 number)
+    (λ is. twin_of (list_lines bytes) (list_lines other) same (HasAddress MeansV6 number) (has_v6 number)
         (λ line empty has. empty_v6 line empty number has) ((h.v6_addresses number).0 is)),
-    (λ some. (h.v6_addresses number).1 (twin_of (lines other) (lines bytes) (sym same)
+    (λ some. (h.v6_addresses number).1 (twin_of (list_lines other) (list_lines bytes) (sym same)
         (HasAddress MeansV6 number) (has_v6 number)
         (λ line empty has. empty_v6 line empty number has) some)),
   );

@@ -1,26 +1,33 @@
 -- Lists that are read from an input, of which the bytes may be known.
-use Rattle.std.proofs.Common.{◌≡◌, ◌∙◌, ℕ, ◌+◌, ◌<◌, ◌≤◌, List, [], ◌∷◌, ◌++◌, Option, Some, None, Result, Ok, Err, length, refl, sym, ap, subst, append-nil, append_assoc, arith}
+use Rattle.std.proofs.Common.{◌≡◌, ◌∙◌, ℕ, ◌+◌, ◌<◌, ◌≤◌, Bool, true, false, List, [], ◌∷◌, ◌++◌, Option, Some, None, Result, Ok, Err, length, refl, sym, ap, subst, append-nil, append_assoc, arith}
 use Rattle.std.specs.Io.BufRead.{DropsThrough, drop_through, take_through}
 use Rattle.std.specs.Io.KnownBytes.{IsAtEnd}
-use Rattle.std.specs.Prelude.{IfSome}
+use Rattle.std.specs.Prelude.{IfSome, IsFalse, IsOk, IsTrue, OnOk}
 use Rattle.std.specs.Result.{IsErrAnd}
 use Rattle.std.specs.Str.Lines.{lines}
 use Rattle.range_set_blaze.specs.Runs.{Interval, members}
 use Rattle.range_set_blaze.specs.Selection.{Selection}
 use Rattle.range_set_blaze.specs.Set.{IsSetOf}
 use Rattle.ip_sets.specs.declared.list.bad_line.BadLine.{BadLine}
+use Rattle.ip_sets.specs.declared.list.fault.ListFault.{ListFault}
+use Rattle.ip_sets.specs.declared.list.fault.ListFault.TheVariants.{BadLine as BadLineFault}
 use Rattle.ip_sets.specs.declared.list.gathered.Gathered.{Gathered}
 use Rattle.ip_sets.specs.Gathering.{AreGathered, AreGatheredBefore, AreGatheredTo, StopsPast, gathered_v4, gathered_v6, range_count}
 use Rattle.ip_sets.specs.Line.{MeansV4, MeansV6, content}
-use Rattle.ip_sets.specs.List.{AreAddressesOf, IsListOf, IsListPast, IsReportOf, LeavesPastBadLine}
+use Rattle.ip_sets.specs.List.{AreAddressesOf, IsListOf, IsListPast, IsReportOf, LeavesPastBadLine, list_lines, report_line, reports_text, without_order_mark}
 use Rattle.ip_sets.proofs.lemmas.listing.Reading.{gathered_next, gathered_past}
-use Rattle.ip_sets.proofs.lemmas.listing.Reports.{all_good}
+use Rattle.ip_sets.proofs.lemmas.listing.Reports.{all_good, told_more}
 
 -- What holds of bytes that are known to be these holds of the known bytes.
 pub IfSome-from : (known : Option (List ℕ)) (Fact : List ℕ → Type 0)
     → ((bytes : List ℕ) → known ≡ Some bytes → Fact bytes) → IfSome known Fact
 IfSome-from None Fact holds = tt
 IfSome-from (Some bytes) Fact holds = holds bytes refl
+
+-- What holds of a success holds if it is one.
+pub ok_holds : {T E P : Type 0} (result : Result T E) → IsOk result → OnOk result P → P
+ok_holds (Ok value) is holds = holds
+ok_holds (Err fault) is holds = absurd (cc is)
 
 -- A fault is passed on as it is.
 pub same_fault : {T E : Type 0} (result : Result T E) (fault other : E) → result ≡ Err other
@@ -29,7 +36,7 @@ same_fault (Ok value) fault other is told = absurd told
 same_fault (Err each) fault other is told = sym told ∙ cc is
 
 -- The line that was read into an empty buffer, and the bytes that are left.
-read_line : (before after : Option (List ℕ)) (buffer line rest : List ℕ) → before ≡ Some rest
+pub read_line : (before after : Option (List ℕ)) (buffer line rest : List ℕ) → before ≡ Some rest
     → buffer ≡ [] → IfSome before (λ known. line ≡ buffer ++ take_through 10 known)
     → DropsThrough before after 10
     → (line ≡ take_through 10 rest) × (after ≡ Some (drop_through 10 rest))
@@ -58,12 +65,6 @@ same_addresses Means list old new same are number = (
 )
 
 module _ {A : Type 0} where
-  -- Nothing is gathered at the start.
-  pub known_start : (bytes : List ℕ) (left : Option (List ℕ)) (gathered : Gathered A)
-      → left ≡ Some bytes → ((bytes : List ℕ) → AreGatheredBefore [] bytes bytes gathered)
-      → AreGatheredTo [] bytes left gathered
-  known_start bytes left gathered is none = (bytes, is, none bytes)
-
   module _ (reports : List BadLine) (all : List ℕ) (before after : Option (List ℕ))
       (buffer line : List ℕ) (old : Gathered A) (has : AreGatheredTo reports all before old)
       (empty : buffer ≡ []) (bytes : IfSome before (λ known. line ≡ buffer ++ take_through 10 known))
@@ -119,10 +120,40 @@ module _ {A : Type 0} where
     },
   )
 
+  -- After the first line was read, there is a report of it if it has no meaning.
+  pub told_first : {T : Type 0} (outcome : Result T ListFault) (is_done : Bool) (name old new : List ℕ)
+      (before after : Option (List ℕ)) (gathered : Gathered A)
+      → (IsTrue is_done → IsOk outcome × (new ≡ old))
+      → (IsFalse is_done → (bad : BadLine) × (outcome ≡ Err (BadLineFault bad))
+      × (new ≡ old ++ report_line name bad))
+      → ((bytes : List ℕ) → before ≡ Some bytes
+      → OnOk outcome (AreGatheredTo [] (without_order_mark bytes) after gathered))
+      → ((bytes : List ℕ) (bad : BadLine) → before ≡ Some bytes
+      → outcome ≡ Err (BadLineFault bad)
+      → StopsPast [] bad (without_order_mark bytes) after gathered)
+      → (reports : List BadLine) × (new ≡ old ++ reports_text name reports)
+      × ((bytes : List ℕ) → before ≡ Some bytes
+      → AreGatheredTo reports (without_order_mark bytes) after gathered)
+  told_first (Ok value) true name old new before after gathered none some good bad = (
+    [],
+    (none refl).1 ∙ sym (append-nil old),
+    good,
+  )
+  told_first (Err fault) true name old new before after gathered none some good bad =
+      absurd (cc (none refl).0)
+  told_first outcome false name old new before after gathered none some good stops =
+      let told = some refl in (
+        told.0 ∷ [],
+        told_more name old old new [] told.0 (sym (append-nil old)) told.2,
+        λ bytes known. read_past [] told.0 (without_order_mark bytes) after gathered
+            (stops bytes told.0 known told.1),
+      )
+
   -- The first of these is the first bad line.
-  pub past_first : (bad : BadLine) (all : List ℕ) (left : Option (List ℕ)) (gathered : Gathered A)
-      → StopsPast [] bad all left gathered → LeavesPastBadLine all left bad
-  past_first bad all left gathered has = (
+  pub past_first : (bad : BadLine) (bytes : List ℕ) (left : Option (List ℕ))
+      (gathered : Gathered A) → StopsPast [] bad (without_order_mark bytes) left gathered
+      → LeavesPastBadLine bytes left bad
+  past_first bad bytes left gathered has = (
     has.0,
     has.1,
     (
@@ -138,10 +169,11 @@ module _ {A : Type 0} where
     ),
   )
 
-  module _ (reports : List BadLine) (all : List ℕ) (gathered : Gathered A)
-      (has : AreGatheredTo reports all (Some []) gathered) (v4 v6 : List Interval) where
+  module _ (reports : List BadLine) (bytes : List ℕ) (gathered : Gathered A)
+      (has : AreGatheredTo reports (without_order_mark bytes) (Some []) gathered)
+      (v4 v6 : List Interval) where
     -- At the end of the input, all lines were gathered.
-    every : lines all ≡ has.2.before
+    every : list_lines bytes ≡ has.2.before
     every =
         let none : has.0 ≡ [] = cc has.1 in
         has.2.parts ∙ ap (λ rest. has.2.before ++ lines rest) none ∙ append-nil has.2.before
@@ -149,7 +181,7 @@ module _ {A : Type 0} where
     -- At the end of the input, the sets of what is gathered are those of the list past its bad
     -- lines.
     pub all_read_past : IsSetOf v4 (gathered_v4 gathered) → IsSetOf v6 (gathered_v6 gathered)
-        → IsListPast all reports (members v4) (members v6)
+        → IsListPast bytes reports (members v4) (members v6)
     all_read_past is4 is6 = record {
       reported = rw every has.2.so_far.reported;
       v4_addresses = rw every (same_addresses MeansV4 has.2.before (gathered_v4 gathered)
@@ -160,14 +192,14 @@ module _ {A : Type 0} where
 
     -- They have at most as many runs as there are lines.
     pub few_read : length v4 + length v6 ≤ range_count gathered
-        → length v4 + length v6 ≤ length (lines all)
+        → length v4 + length v6 ≤ length (list_lines bytes)
     few_read few = omega (arith, few, has.2.so_far.few, ap length every)
 
 -- A list past no bad lines is a list.
-pub good_list : (all : List ℕ) (v4 v6 : Selection) → IsListPast all [] v4 v6
-    → IsListOf all v4 v6
-good_list all v4 v6 past = record {
-  good = all_good 1 (lines all) past.reported;
+pub good_list : (bytes : List ℕ) (v4 v6 : Selection) → IsListPast bytes [] v4 v6
+    → IsListOf bytes v4 v6
+good_list bytes v4 v6 past = record {
+  good = all_good 1 (list_lines bytes) past.reported;
   v4_addresses = past.v4_addresses;
   v6_addresses = past.v6_addresses;
 }

@@ -46,7 +46,8 @@ fresh_v4 line range h = fresh_parts 32 IsV4 (parts 45 (content line)) range h
 -- Neither was a range of IPv6 addresses.
 pub fresh_v6 : (line : List ℕ) (range : RangeInclusive ℕ) → IsLine line (V6 range)
     → range_inclusive_exhausted range ≡ false
-fresh_v6 line range h = fresh_parts 128 IsV6 (parts 45 (content line)) range h
+fresh_v6 line range (inl h) = fresh_parts 128 IsV6 (parts 45 (content line)) range h
+fresh_v6 line range (inr h) = h.one.one.fresh
 
 -- ---- the addresses of a line
 

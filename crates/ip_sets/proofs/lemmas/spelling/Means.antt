@@ -1,5 +1,5 @@
 -- What is written is read back.
-use Rattle.std.proofs.Common.{◌≡◌, ℕ, ◌^◌, ◌<◌, ◌≤◌, List, ◌∷◌, ◌++◌, refl, ap, arith}
+use Rattle.std.proofs.Common.{◌≡◌, ℕ, ◌^◌, ◌<◌, ◌≤◌, List, ◌∷◌, ◌++◌, inl, refl, ap, arith}
 use Rattle.std.specs.Fmt.{decimal}
 use Rattle.std.specs.Net.Addr.{IsIpv4OfBits, IsIpv6OfBits, ipv4_octets, ipv6_segments}
 use Rattle.std.specs.Net.Text.{ipv4_text, ipv6_text}
@@ -32,7 +32,7 @@ pub v4_block_means : (address : Ipv4Addr) (n length : ℕ) (text : List ℕ) →
     → MeansV4 text (block_start 32 length n) (block_end 32 length n)
 v4_block_means address n length text fits within is e range spans =
     rw e (block_line 32 IsV4 (v4_text n) (decimal length) n length range (v4_plain n)
-    (decimal_plain length (omega arith)) (IsV4-v4_text address n fits is) refl within spans)
+    (decimal_plain length (omega arith)) (IsV4-v4_text address n fits is) refl within (omega arith) spans)
 
 -- The text of a range of IPv4 addresses means the addresses of the range.
 pub v4_span_means : (start end : Ipv4Addr) (first last : ℕ) (text : List ℕ) → first < 2 ^ 32
@@ -55,22 +55,22 @@ v6_text_of address n is = ap ipv6_text is
 pub v6_means : (address : Ipv6Addr) (n : ℕ) (text : List ℕ) → n < 2 ^ 128
     → IsIpv6OfBits address n → text ≡ v6_text n → MeansV6 text n n
 v6_means address n text fits is e range spans =
-    rw e (plain_line 128 IsV6 (v6_text n) n range (v6_plain n)
-    (IsV6-v6_text address n fits is) spans)
+    inl (rw e (plain_line 128 IsV6 (v6_text n) n range (v6_plain n)
+    (IsV6-v6_text address n fits is) spans))
 
 -- The text of a block of IPv6 addresses means the addresses of the block.
 pub v6_block_means : (address : Ipv6Addr) (n length : ℕ) (text : List ℕ) → n < 2 ^ 128
     → length ≤ 128 → IsIpv6OfBits address n → text ≡ v6_text n ++ 47 ∷ decimal length
     → MeansV6 text (block_start 128 length n) (block_end 128 length n)
 v6_block_means address n length text fits within is e range spans =
-    rw e (block_line 128 IsV6 (v6_text n) (decimal length) n length range (v6_plain n)
-    (decimal_plain length (omega arith)) (IsV6-v6_text address n fits is) refl within spans)
+    inl (rw e (block_line 128 IsV6 (v6_text n) (decimal length) n length range (v6_plain n)
+    (decimal_plain length (omega arith)) (IsV6-v6_text address n fits is) refl within (omega arith) spans))
 
 -- The text of a range of IPv6 addresses means the addresses of the range.
 pub v6_span_means : (start end : Ipv6Addr) (first last : ℕ) (text : List ℕ) → first < 2 ^ 128
     → last < 2 ^ 128 → first ≤ last → IsIpv6OfBits start first → IsIpv6OfBits end last
     → text ≡ v6_text first ++ 45 ∷ v6_text last → MeansV6 text first last
 v6_span_means start end first last text fits fits_too in_order is is_too e range spans =
-    rw e (span_line 128 IsV6 (v6_text first) (v6_text last) first last range
+    inl (rw e (span_line 128 IsV6 (v6_text first) (v6_text last) first last range
     (v6_plain first) (v6_plain last) (IsV6-v6_text start first fits is)
-    (IsV6-v6_text end last fits_too is_too) in_order spans)
+    (IsV6-v6_text end last fits_too is_too) in_order spans))

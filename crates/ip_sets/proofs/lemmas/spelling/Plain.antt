@@ -97,7 +97,7 @@ module _ (bits : ℕ) (IsAddress : List ℕ → ℕ → Type 0) (fits : bits ≤
             ends.parts;
         one = no_feeds_both h.text (decimal ends.length) 47 refl plain digits;
         fact = block_line bits IsAddress h.text (decimal ends.length) n ends.length range plain
-            digits h.written refl ends.within ends.block;
+            digits h.written refl ends.within (omega (arith, ends.within, fits)) ends.block;
       }
 
   -- Two addresses with a dash between them and a line feed are a line.

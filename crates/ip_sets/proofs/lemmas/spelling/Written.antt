@@ -17,10 +17,11 @@ use Rattle.std.specs.Net.Text.{hex_groups_text, ipv4_text, ipv6_text}
 use Rattle.std.specs.Str.{bytes_eq}
 use Rattle.std.specs.declared.ops.RangeInclusive.{RangeInclusive}
 use Rattle.ip_sets.specs.Address.{v4_text, v6_text}
-use Rattle.ip_sets.specs.AddressRange.{IsBlockAround, Spans, WritesRange}
+use Rattle.ip_sets.specs.AddressRange.{IsBlockAround, Spans, WritesEnd, WritesRange}
 use Rattle.ip_sets.specs.Line.{begins_comment, content, is_mark}
 use Rattle.ip_sets.specs.LineParts.{parts, trimmed, without_first_blanks}
 use Rattle.ip_sets.proofs.lemmas.spelling.Bytes.{byte_fits, segment_fits}
+use Rattle.ip_sets.proofs.lemmas.spelling.Lengths.{decimal_length}
 
 -- Whether the byte has no meaning of its own in a line.
 pub record IsPlain (byte : ℕ) : Type 0 where
@@ -28,6 +29,7 @@ pub record IsPlain (byte : ℕ) : Type 0 where
   pub no_blank : is_ascii_whitespace byte ≡ false
   no_dash : eqb byte 45 ≡ false
   no_slash : eqb byte 47 ≡ false
+  pub no_order_mark : eqb 239 byte ≡ false
 
 -- A byte that may be part of an address is plain.
 unmarked : (byte : ℕ) → is_mark byte ≡ false → IsPlain byte
@@ -36,6 +38,7 @@ unmarked byte is = record {
   no_blank = grind (arith, nat_tests);
   no_dash = grind (arith, nat_tests);
   no_slash = grind (arith, nat_tests);
+  no_order_mark = grind (arith, nat_tests);
 }
 
 -- A text of bytes that may be part of an address has only plain bytes.
@@ -140,6 +143,10 @@ quiet_both first second separator h k is =
     All-append IsQuiet first (separator ∷ second) (quiet_plain first h)
     (All-cons IsQuiet separator second is (quiet_plain second k))
 
+-- The range of one number.
+abbrev one_range : ℕ → RangeInclusive ℕ
+one_range n = record { start = n; end = n; exhausted = false }
+
 module _ (bits : ℕ) (IsAddress : List ℕ → ℕ → Type 0) where
   -- If the text is an address, the line means that address.
   pub plain_line : (text : List ℕ) (n : ℕ) (range : RangeInclusive ℕ) → All IsPlain text
@@ -154,9 +161,9 @@ module _ (bits : ℕ) (IsAddress : List ℕ → ℕ → Type 0) where
   -- An address, a slash and a length mean the block.
   pub block_line : (text digits : List ℕ) (n length : ℕ) (range : RangeInclusive ℕ)
       → All IsPlain text → All IsPlain digits → IsAddress text n → digits ≡ decimal length
-      → length ≤ bits → IsBlockAround bits length n range
+      → length ≤ bits → length < 2 ^ 64 → IsBlockAround bits length n range
       → WritesRange bits IsAddress (content (text ++ 47 ∷ digits)) range
-  block_line text digits n length range plain plain_too is spelled within block =
+  block_line text digits n length range plain plain_too is spelled within fits block =
       let quiet : IsQuiet 47 = record { no_comment = refl; no_blank = refl } in
       let no_dash = All-append (λ byte. eqb byte 45 ≡ false) text (47 ∷ digits)
       (no_dash_plain text plain)
@@ -170,11 +177,21 @@ module _ (bits : ℕ) (IsAddress : List ℕ → ℕ → Type 0) where
         address = n;
         length = length;
         address_written = is;
-        length_written = spelled;
+        length_written = decimal_length bits IsAddress digits length fits spelled;
         within = within;
         block = block;
       }
       )
+
+  -- A text that is an address is an end of a range.
+  end_plain : (text : List ℕ) (n : ℕ) → All IsPlain text → IsAddress text n
+      → WritesEnd bits IsAddress (trimmed text) (one_range n)
+  end_plain text n plain is =
+      rw (no_blanks_plain text plain, one_plain 47 text (no_slash_plain text plain)) (record {
+        address = n;
+        written = is;
+        one = record { start = refl; end = refl; fresh = refl };
+      })
 
   -- Two addresses with a dash between them mean the range.
   pub span_line : (start end : List ℕ) (first last : ℕ) (range : RangeInclusive ℕ)
@@ -183,17 +200,15 @@ module _ (bits : ℕ) (IsAddress : List ℕ → ℕ → Type 0) where
       → WritesRange bits IsAddress (content (start ++ 45 ∷ end)) range
   span_line start end first last range plain plain_too is is_too in_order spans =
       let quiet : IsQuiet 45 = record { no_comment = refl; no_blank = refl } in
-      let from : IsAddress (trimmed start) first = rw (no_blanks_plain start plain) is in
-      let to : IsAddress (trimmed end) last = rw (no_blanks_plain end plain_too) is_too in
       rw (
         content_quiet (start ++ 45 ∷ end) (quiet_both start end 45 plain plain_too quiet),
         two_plain 45 start end (no_dash_plain start plain) (no_dash_plain end plain_too) refl,
       ) (
       record {
-        first = first;
-        last = last;
-        first_written = from;
-        last_written = to;
+        first = one_range first;
+        last = one_range last;
+        first_written = end_plain start first plain is;
+        last_written = end_plain end last plain_too is_too;
         in_order = in_order;
         span = spans;
       }
@@ -213,35 +228,49 @@ no_blank_from byte low = grind (arith, nat_tests)
 not_below : (byte n : ℕ) → n < byte → eqb byte n ≡ false
 not_below byte n low = grind (arith, nat_tests)
 
--- A byte from `0` on is plain, except `;`.
-plain_from : (byte : ℕ) → 48 ≤ byte → byte ≢ 59 → IsPlain byte
-plain_from byte low other = record {
+-- A byte below another is not that one.
+not_above : (byte n : ℕ) → byte < n → eqb n byte ≡ false
+not_above byte n high = grind (arith, nat_tests)
+
+-- A byte of ASCII from `0` on is plain, except `;`.
+plain_from : (byte : ℕ) → 48 ≤ byte → byte < 128 → byte ≢ 59 → IsPlain byte
+plain_from byte low high other = record {
   no_comment = no_comment_from byte low other;
   no_blank = no_blank_from byte low;
   no_dash = not_below byte 45 (omega arith);
   no_slash = not_below byte 47 (omega arith);
+  no_order_mark = not_above byte 239 (omega arith);
 }
 
 -- A dot is plain.
 dot_plain : IsPlain 46
-dot_plain = record { no_comment = refl; no_blank = refl; no_dash = refl; no_slash = refl }
+dot_plain = record {
+  no_comment = refl;
+  no_blank = refl;
+  no_dash = refl;
+  no_slash = refl;
+  no_order_mark = refl;
+}
 
 -- A digit or a dot is plain.
 digit_plain : (byte : ℕ) → IsDigitOrDot byte → IsPlain byte
-digit_plain byte (inl digit) = plain_from byte digit.0 (λ is. omega (arith, is, digit.1))
+digit_plain byte (inl digit) =
+    plain_from byte digit.0 (omega (arith, digit.1)) (λ is. omega (arith, is, digit.1))
 digit_plain byte (inr dot) = subst IsPlain (sym dot) dot_plain
 
 -- A hexadecimal digit or a colon is plain.
 hex_plain : (byte : ℕ) → IsHexOrColon byte → IsPlain byte
-hex_plain byte (inl digit) = plain_from byte digit.0 (λ is. omega (arith, is, digit.1))
-hex_plain byte (inr letter) =
-    plain_from byte (omega (arith, letter.0)) (λ is. omega (arith, is, letter.0))
+hex_plain byte (inl digit) =
+    plain_from byte digit.0 (omega (arith, digit.1)) (λ is. omega (arith, is, digit.1))
+hex_plain byte (inr letter) = plain_from byte (omega (arith, letter.0)) (omega (arith, letter.1))
+    (λ is. omega (arith, is, letter.0))
 
 -- A number in decimal is plain.
 pub decimal_plain : (n : ℕ) → n < 2 ^ 64 → All IsPlain (decimal n)
 decimal_plain n fits = All-from_get_or IsPlain (decimal n) 0 λ i within.
     let digit = digit_at (decimal n) i (decimal_is_IsNumeral n fits).0.1 within in
-    plain_from (get_or (decimal n) i 0) digit.0 (λ is. omega (arith, is, digit.1))
+    plain_from (get_or (decimal n) i 0) digit.0 (omega (arith, digit.1))
+    (λ is. omega (arith, is, digit.1))
 
 -- The text of an IPv4 address is plain.
 pub v4_plain : (n : ℕ) → All IsPlain (v4_text n)
@@ -266,11 +295,23 @@ plain_both false xs ys h k = k
 
 -- A colon is plain.
 colon_plain : IsPlain 58
-colon_plain = record { no_comment = refl; no_blank = refl; no_dash = refl; no_slash = refl }
+colon_plain = record {
+  no_comment = refl;
+  no_blank = refl;
+  no_dash = refl;
+  no_slash = refl;
+  no_order_mark = refl;
+}
 
 -- The letter f is plain.
 f_plain : IsPlain 102
-f_plain = record { no_comment = refl; no_blank = refl; no_dash = refl; no_slash = refl }
+f_plain = record {
+  no_comment = refl;
+  no_blank = refl;
+  no_dash = refl;
+  no_slash = refl;
+  no_order_mark = refl;
+}
 
 -- A plain text with a plain byte before it is plain.
 plain_cons : (byte : ℕ) (text : List ℕ) → IsPlain byte → All IsPlain text

@@ -10,4 +10,4 @@ returns-in_err-addresses c =
     (bad_line c.args.line.now text c.content-text.ensures
     (λ is. true≢false (sym (ap (λ (all : List ℕ). eqb (length all) 0) is) ∙ sym c.is_empty.ensures
     ∙ c.if-is_empty.false))
-    c.in_default.ensures c.in_err-addresses.ensures)
+    c.in_default.ensures c.in_default-range.ensures c.in_err-addresses.ensures)

@@ -41,4 +41,4 @@ returns-clause-arguments g c words are =
     more-option words c.args.word.now c.args.self.now _ are c.if-self.false
     (sym c.eq.ensures ∙ c.if-eq.false) (sym c.is_dashed.ensures ∙ c.if-not-is_dashed.false)
     c.in_ok-self.ensures.known refl c.in_ok-self.ensures.form c.in_ok-self.ensures.families
-    c.in_ok-self.ensures.question refl
+    c.in_ok-self.ensures.question c.in_ok-self.ensures.fail_empty c.in_ok-self.ensures.skip_bad refl

@@ -1,5 +1,5 @@
 use Rattle.std.proofs.Common.{map, take}
-use Rattle.ip_commands.specs.Answer.{AreReported}
+use Rattle.ip_commands.specs.Files.{AreReported}
 use Rattle.ip_commands.proofs.lemmas.Files.{name_of}
 use Rattle.ip_commands.proofs.commands.check.reports.Given as goal
 

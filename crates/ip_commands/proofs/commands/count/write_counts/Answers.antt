@@ -3,8 +3,8 @@ use Rattle.range_set_blaze.specs.Multiway.{IsMadeOf}
 use Rattle.range_set_blaze.specs.Runs.{members}
 use Rattle.range_set_blaze.specs.Selection.{Agree, any_of}
 use Rattle.ip_commands.proofs.lemmas.Answer.{same-v4, same-v6}
-use Rattle.ip_commands.specs.Files.{IsFirstFault, selected}
-use Rattle.ip_commands.proofs.lemmas.Files.{all-good, name_of, passed-on}
+use Rattle.ip_commands.specs.Files.{IsFirstFault, file_names, selected}
+use Rattle.ip_commands.proofs.lemmas.Files.{all-good, passed-on}
 use Rattle.ip_commands.specs.declared.fault.Fault.TheVariants.{NotWritten}
 use Rattle.ip_commands.proofs.commands.count.write_counts.Goals as goal
 
@@ -37,8 +37,9 @@ pub returns-in_err-write_list_counts-clause-first
     : goal.returns-in_err-write_list_counts-clause-first
 returns-in_err-write_list_counts-clause-first g c =
     let bytes = g.I.Inputs.bytes c.args.inputs.now in
-    let names = map name_of c.args.files.now in
+    let skip_bad = c.args.sources.skip_bad in
+    let names = file_names c.args.sources in
     passed-on c.from_residual-in_err-write_list_counts.result
-    (NotWritten c.in_err-write_list_counts.field-0.0) (IsFirstFault bytes names)
+    (NotWritten c.in_err-write_list_counts.field-0.0) (IsFirstFault bytes skip_bad names)
     c.from_residual-in_err-write_list_counts.ensures.1
-    (all-good bytes names (map selected c.in_ok-lists.lists.items) c.in_ok-lists.ensures.lists)
+    (all-good bytes skip_bad names (map selected c.in_ok-lists.lists.items) c.in_ok-lists.ensures.lists)

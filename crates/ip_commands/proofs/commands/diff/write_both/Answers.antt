@@ -8,5 +8,5 @@ returns g c =
     let contents = g.W.Write.contents in
     both-differences c.args.diff.form c.args.diff.families (selected c.args.old.now)
     (selected c.args.new.now) (contents c.args.output.now) (contents c.write_difference.new.output)
-    (contents c.write_difference-2.new.output) c.write_difference-2.result
-    c.in_ok-write_difference.ensures c.write_difference-2.ensures
+    (contents c.write_difference-2.new.output) _ _ c.in_ok-write_difference.ensures
+    c.in_ok-write_difference-2.ensures

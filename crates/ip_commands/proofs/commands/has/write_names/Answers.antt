@@ -1,6 +1,6 @@
 use Rattle.std.proofs.Common.{map}
-use Rattle.ip_commands.specs.Files.{IsFirstFault, selected}
-use Rattle.ip_commands.proofs.lemmas.Files.{all-good, name_of, passed-on}
+use Rattle.ip_commands.specs.Files.{IsFirstFault, file_names, selected}
+use Rattle.ip_commands.proofs.lemmas.Files.{all-good, passed-on}
 use Rattle.ip_commands.specs.declared.fault.Fault.TheVariants.{NotWritten}
 use Rattle.ip_commands.proofs.commands.has.write_names.Goals as goal
 
@@ -8,7 +8,8 @@ use Rattle.ip_commands.proofs.commands.has.write_names.Goals as goal
 pub returns-in_err-outcome-clause-first : goal.returns-in_err-outcome-clause-first
 returns-in_err-outcome-clause-first g c =
     let bytes = g.I.Inputs.bytes c.args.inputs.now in
-    let names = map name_of c.args.files.now in
+    let skip_bad = c.args.sources.skip_bad in
+    let names = file_names c.args.sources in
     passed-on c.from_residual-in_err-outcome.result (NotWritten c.in_err-outcome.field-0.0)
-    (IsFirstFault bytes names) c.from_residual-in_err-outcome.ensures.1
-    (all-good bytes names (map selected c.in_ok-lists.lists.items) c.in_ok-lists.ensures.lists)
+    (IsFirstFault bytes skip_bad names) c.from_residual-in_err-outcome.ensures.1
+    (all-good bytes skip_bad names (map selected c.in_ok-lists.lists.items) c.in_ok-lists.ensures.lists)

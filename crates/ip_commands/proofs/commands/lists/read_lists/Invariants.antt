@@ -1,10 +1,17 @@
-use Rattle.std.proofs.Common.{map, take}
-use Rattle.ip_commands.specs.Files.{AreFilesOf, selected}
+use Rattle.std.proofs.Common.{◌≡◌, map, take}
+use Rattle.std.specs.Prelude.{IsFalse}
+use Rattle.ip_commands.specs.Files.{AddsReports, AreFilesOf, selected}
 use Rattle.ip_commands.proofs.lemmas.Files.{name_of}
 use Rattle.ip_commands.proofs.commands.lists.read_lists.Given as goal
 
--- the lists are those of the files before this one
+-- the lists are those of the files before this one, and so are the reports
 abbrev pub invariant-loop-file : goal.invariant-loop-file
 invariant-loop-file g l =
-    AreFilesOf (g.I.Inputs.bytes l.inputs) (map name_of (take l.file-index l.files))
-    (map selected l.lists.items)
+    let bytes = g.I.Inputs.bytes l.inputs in
+    let skip_bad = l.sources.skip_bad in
+    let names = map name_of (take l.file-index l.files) in
+    record {
+      lists : AreFilesOf bytes skip_bad names (map selected l.lists.items);
+      told : AddsReports bytes skip_bad names l.fn.told.items l.told.items;
+      quiet : IsFalse skip_bad → l.told.items ≡ l.fn.told.items;
+    }

@@ -1,7 +1,7 @@
 use Rattle.std.proofs.Common.{◌≡◌, ◌∙◌, ◌↔◌, ◌⊎◌, inl, inr, ℕ, Bool, false, List, IsTrue, sym}
 use Rattle.std.proofs.lemmas.Bool.{false≢true}
 use Rattle.ip_sets.specs.Address.{IsV4, IsV6}
-use Rattle.ip_sets.specs.Reason.{Writes}
+use Rattle.ip_sets.specs.Reason.{IsEnd}
 use Rattle.ip_sets.proofs.line.reasons.is_mixed.Goals as goal
 
 -- Of two facts, one does not hold, and the other was tested.
@@ -15,8 +15,9 @@ other_one First Second a b first last one other at_first at_last none h k =
     back (inl is) = absurd (false≢true (sym none ∙ h.1 is))
     back (inr is) = k.1 is
 
-pub returns-else-write : goal.returns-else-write
-returns-else-write c = other_one (λ first last. Writes IsV4 first × Writes IsV6 last)
-    (λ first last. Writes IsV6 first × Writes IsV4 last) c.trimmed-first.result.now
-    c.trimmed-last.result.now _ _ c.write.result c.write-else-write.result c.trimmed-first.ensures
-    c.trimmed-last.ensures c.if-write.false c.write.ensures c.write-else-write.ensures
+pub returns-else-are_ends : goal.returns-else-are_ends
+returns-else-are_ends c = other_one (λ first last. IsEnd 32 IsV4 first × IsEnd 128 IsV6 last)
+    (λ first last. IsEnd 128 IsV6 first × IsEnd 32 IsV4 last) c.trimmed-first.result.now
+    c.trimmed-last.result.now _ _ c.are_ends.result c.are_ends-else-are_ends.result
+    c.trimmed-first.ensures c.trimmed-last.ensures c.if-are_ends.false c.are_ends.ensures
+    c.are_ends-else-are_ends.ensures

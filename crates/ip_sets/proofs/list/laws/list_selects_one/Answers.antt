@@ -1,15 +1,15 @@
 use Rattle.ip_sets.specs.Line.{MeansV4, MeansV6}
-use Rattle.std.specs.Str.Lines.{lines}
+use Rattle.ip_sets.specs.List.{list_lines}
 use Rattle.ip_sets.proofs.lemmas.listing.OneSelection.{not_both, one_bad_line, one_selection}
 use Rattle.ip_sets.proofs.list.laws.list_selects_one.Goals as goal
 
 pub returns-clause-v4 : goal.returns-clause-v4
 returns-clause-v4 c = λ bytes v4 v6 other4 other6 number h k.
-    one_selection MeansV4 (lines bytes) v4 other4 h.v4_addresses k.v4_addresses number
+    one_selection MeansV4 (list_lines bytes) v4 other4 h.v4_addresses k.v4_addresses number
 
 pub returns-clause-v6 : goal.returns-clause-v6
 returns-clause-v6 c = λ bytes v4 v6 other4 other6 number h k.
-    one_selection MeansV6 (lines bytes) v6 other6 h.v6_addresses k.v6_addresses number
+    one_selection MeansV6 (list_lines bytes) v6 other6 h.v6_addresses k.v6_addresses number
 
 pub returns-clause-bad_line : goal.returns-clause-bad_line
 returns-clause-bad_line c = one_bad_line

@@ -1,0 +1,5 @@
+use Rattle.ip_sets.proofs.lemmas.listing.OrderMark.{mark_before}
+use Rattle.ip_sets.proofs.list.laws.order_mark_selects_nothing.Goals as goal
+
+pub returns : goal.returns
+returns c = mark_before
