@@ -190,7 +190,12 @@ const BAD_LINES: usize = 50_000;
 fn alternating(alloc: Global) -> io::Result<Vec<u8>> {
     let mut text = Vec::new(alloc);
     for number in 0..BAD_LINES {
-        writeln!(text, "line {number}\n2001:db8::{number}")?;
+        writeln!(
+            text,
+            "line {number}\n10.0.{}.{}",
+            number / 256,
+            number % 256
+        )?;
     }
     Ok(text)
 }
