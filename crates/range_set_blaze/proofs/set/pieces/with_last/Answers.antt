@@ -1,4 +1,4 @@
-use Rattle.std.proofs.Common.{append-nil, subst, sym, ◌∙◌}
+use Rattle.std.proofs.Common.{append-nil, subst, sym}
 use Rattle.rsb_integer.specs.Runs.{IsCanonicalIn}
 use Rattle.rsb_storage.specs.Storage.{run_of, runs_of}
 use Rattle.range_set_blaze.proofs.lemmas.gathering.Pieces.{gathered-order, kept-all, more-counted, more-fits, runs_of-more}
