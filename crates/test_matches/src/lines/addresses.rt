@@ -133,6 +133,9 @@ fn the_first_address_of_a_line_is_found(rt: HostRuntime) {
             Some(text) => address(text),
             None => None,
         };
-        assert!(rt; is_same(first_address(line.as_bytes()), wanted), "at {line}");
+        assert!(rt;
+            is_same(first_address(line.as_bytes()), wanted),
+            "at {line}"
+        );
     }
 }

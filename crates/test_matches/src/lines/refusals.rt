@@ -33,7 +33,8 @@ static CALLS: [Call; 5] = [
 ];
 
 /// A text whose lines are longer than the buffer that it is read by.
-static TEXT: &[u8] = b"10.0.0.1 a line that is longer than the buffer, and needs more than one part\n\
+static TEXT: &[u8] =
+    b"10.0.0.1 a line that is longer than the buffer, and needs more than one part\n\
     11.0.0.1 another line\n10.0.0.2 a line that is even longer than the first one, and so needs more \
     memory than that one does, and this goes on and on and on and on and on and on and on\n";
 
@@ -69,12 +70,7 @@ fn is_right(
 
 /// Returns the number of allocations that a call needs, or `None` if a result is wrong or memory is
 /// lost.
-fn allocations(
-    alloc: Global,
-    heap: &Heap,
-    lists: &AddressList,
-    call: Call,
-) -> Option<usize> {
+fn allocations(alloc: Global, heap: &Heap, lists: &AddressList, call: Call) -> Option<usize> {
     for granted in 0..64usize {
         heap.fail_after(granted);
         let outcome = is_right(alloc, heap, lists, call);
