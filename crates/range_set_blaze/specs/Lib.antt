@@ -7,6 +7,7 @@ pub mod Joining
 pub mod Lent
 pub mod Multiway
 pub mod Order
+pub mod Pieces
 pub mod Ranked
 pub mod Removal
 pub mod RemoveRanges

@@ -22,6 +22,7 @@ mod look_up;
 mod operators;
 pub(crate) mod order;
 pub mod parse;
+mod pieces;
 mod ranked;
 mod remove;
 mod remove_ranges;

@@ -19,6 +19,7 @@ ghost use Rattle.rsb_storage.specs.Set.{IsSetOf};
 
 use crate::set::RangeSetBlaze;
 use crate::set::disjoint_union::{chained, lies_below};
+use crate::set::pieces::kept_of;
 use rsb_integer::Integer;
 use rsb_streams::DrawDisjoint;
 use std::alloc::{AllocError, Allocator};
@@ -63,7 +64,7 @@ impl<T: Integer, A: Allocator + Copy> RangeSetBlaze<T, A> {
             IsSetOf set (intersection (members self.now) (members other.now))) }
         ensures run_count { IfOk result (λ set. HasFewerRunsThanBoth self.now other.now set) }
     {
-        intersection_of(self.alloc, self.ranges(), other.ranges())
+        kept_of(self.alloc, self, other, true)
     }
 
     /// Returns the difference of two sets: the values in this set that are not in the other. Takes
@@ -85,7 +86,7 @@ impl<T: Integer, A: Allocator + Copy> RangeSetBlaze<T, A> {
             IsSetOf set (symmetric_difference (members self.now) (members other.now))) }
         ensures run_count { IfOk result (λ set. HasRunsOfBothAtMost self.now other.now set) }
     {
-        symmetric_difference_of(self.alloc, self.ranges(), other.ranges())
+        kept_of(self.alloc, self, other, false)
     }
 
     /// Returns the complement: the values that the set lacks. It has at most one more run than the
@@ -158,24 +159,4 @@ fn difference_of<T: Integer, A: Allocator + Copy, L: DrawDisjoint<T>, R: DrawDis
         → IfOk result (HasRunsOfBothAtMost these those) }
 {
     RangeSetBlaze::from_sorted_disjoint(alloc, left.difference(right))
-}
-
-// Returns the symmetric difference of two ready streams as a set.
-fn symmetric_difference_of<T: Integer, A: Allocator + Copy, L: DrawDisjoint<T>, R: DrawDisjoint<T>>(
-    alloc: A,
-    left: L,
-    right: R,
-) -> Result<RangeSetBlaze<T, A>, AllocError>
-    requires left { L.can_draw left }
-    requires right { R.can_draw right }
-    ensures members { (these those : List Interval) → L.may_give left ⊆ just these
-        → R.may_give right ⊆ just those → AreRuns T.value_count (members these) these
-        → AreRuns T.value_count (members those) those
-        → IfOk result (λ set. IsSetOf set (symmetric_difference (members these) (members those))) }
-    ensures run_count { (these those : List Interval) → L.may_give left ⊆ just these
-        → R.may_give right ⊆ just those → AreRuns T.value_count (members these) these
-        → AreRuns T.value_count (members those) those
-        → IfOk result (HasRunsOfBothAtMost these those) }
-{
-    RangeSetBlaze::from_sorted_disjoint(alloc, left.symmetric_difference(right))
 }
