@@ -1,3 +1,4 @@
+pub mod Between
 pub mod Compared
 pub mod Comparing
 pub mod Contained
@@ -10,6 +11,7 @@ pub mod Made
 pub mod Ordered
 pub mod Pairs
 pub mod Parted
+pub mod Past
 pub mod Placed
 pub mod Retaining
 pub mod RetainingRanges
@@ -19,3 +21,4 @@ pub mod Starts
 pub mod Taken
 pub mod Texts
 pub mod Values
+pub mod Windows

@@ -1,6 +1,7 @@
 -- The definitions that the contracts of maps use, and those that they cite from the crates below, so
 -- that a user's crate has to name no other crate.
 pub mod Elements
+pub mod Ends
 pub mod KeyRanges
 pub mod Made
 pub mod Map

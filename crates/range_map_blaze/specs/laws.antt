@@ -1,3 +1,4 @@
 -- The laws of the definitions.
 pub mod Order
+pub mod Text
 pub mod Value

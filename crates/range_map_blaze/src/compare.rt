@@ -120,8 +120,8 @@ fn past<'a, T: Integer, V: MapValue>(
     Some(Piece { run, value })
 }
 
-// Returns the lesser of two values.
-fn lesser<T: Integer>(left: T, right: T) -> T
+/// Returns the lesser of two values.
+pub(crate) fn lesser<T: Integer>(left: T, right: T) -> T
     requires left { T.rank left < T.value_count }
     requires right { T.rank right < T.value_count }
     ensures { T.rank result ≡ min (T.rank left) (T.rank right) }

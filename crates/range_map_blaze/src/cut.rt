@@ -17,6 +17,7 @@ ghost use Rattle.std.specs.Prelude.{
   OnOk,
 };
 ghost use Rattle.rsb_storage.specs.Storage.{run_of};
+ghost use Rattle.range_map_blaze.specs.Ends.{IsStartPast};
 ghost use Rattle.range_map_blaze.specs.Map.{
   value_at,
   IsJoinedEnd,
@@ -37,7 +38,7 @@ ghost use Rattle.range_map_blaze.specs.Storage.{
 use crate::map_value::MapValue;
 use crate::pieces::{Piece, Pieces};
 use rsb_integer::Integer;
-use rsb_storage::run::{Run, is_below, previous};
+use rsb_storage::run::{Run, is_below, previous, reaches};
 use std::alloc::{AllocError, Allocator};
 
 /// Returns the piece that contains a key, or `None` if the key has no value.
@@ -81,6 +82,32 @@ pub(crate) fn joined_start<T: Integer, V: MapValue, A: Allocator>(
         piece.run.start
     } else {
         start
+    }
+}
+
+/// Returns the start of a run that lies past all keys, joined with the last piece if that ends right
+/// below it and has the value. Returns `None` if a key is at or past the start.
+pub(crate) fn start_past<T: Integer, V: MapValue, A: Allocator>(
+    pieces: &Pieces<T, V, A>,
+    start: T,
+    value: &V,
+) -> Option<T>
+    requires canonical { IsMapIn T.value_count pieces.now }
+    requires value { T.rank start < T.value_count }
+    ensures { IfSome result (λ joined.
+        IsStartPast pieces.now (T.rank start) (V.seen value.now) (T.rank joined)) }
+{
+    let Some(last) = pieces.last() else {
+        return Some(start);
+    };
+    let run = last.run;
+    if !run.ends_before(start) {
+        return None;
+    }
+    if reaches(run.end, start) && last.value == value {
+        Some(run.start)
+    } else {
+        Some(start)
     }
 }
 

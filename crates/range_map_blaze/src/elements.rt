@@ -12,7 +12,7 @@ use crate::held::{first_left, last_left, without_first, without_last};
 use crate::map_value::MapValue;
 use crate::pieces::Piece;
 use rsb_integer::Integer;
-use std::collections::btree_map::Iter as Entries;
+use std::collections::btree_map::Range;
 use std::iter::FusedIterator;
 use std::marker::Model;
 
@@ -23,7 +23,7 @@ use std::marker::Model;
 pub struct Iter<'a, T: Integer, V: MapValue> {
     // What is left of the pieces last taken from the front and from the back.
     pub(crate) front: Option<Piece<'a, T, V>>,
-    pub(crate) entries: Entries<'a, T, (T, V)>,
+    pub(crate) entries: Range<'a, T, (T, V)>,
     pub(crate) back: Option<Piece<'a, T, V>>,
 }
 

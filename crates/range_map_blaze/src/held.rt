@@ -15,13 +15,13 @@ use crate::map_value::MapValue;
 use crate::pieces::Piece;
 use rsb_integer::Integer;
 use rsb_storage::run::Run;
-use std::collections::btree_map::Iter;
+use std::collections::btree_map::Range;
 
 /// Removes and returns the first piece of what is left: one that is held at the front, entries, and
 /// one that is held at the back. Returns `None` if nothing is left.
 pub(crate) fn first_left<'a, T: Integer, V: MapValue>(
     front: &mut Option<Piece<'a, T, V>>,
-    entries: &mut Iter<'a, T, (T, V)>,
+    entries: &mut Range<'a, T, (T, V)>,
     back: &mut Option<Piece<'a, T, V>>,
 ) -> Option<Piece<'a, T, V>>
     ensures front { front.new ≡ None }
@@ -47,7 +47,7 @@ pub(crate) fn first_left<'a, T: Integer, V: MapValue>(
 /// Removes and returns the last piece of what is left. Returns `None` if nothing is left.
 pub(crate) fn last_left<'a, T: Integer, V: MapValue>(
     front: &mut Option<Piece<'a, T, V>>,
-    entries: &mut Iter<'a, T, (T, V)>,
+    entries: &mut Range<'a, T, (T, V)>,
     back: &mut Option<Piece<'a, T, V>>,
 ) -> Option<Piece<'a, T, V>>
     ensures back { back.new ≡ None }

@@ -73,44 +73,57 @@ impl<T: Integer, V: MapValue + Copy, A: Allocator> DoubleEndedIterator for IntoI
     }
 }
 
-/// An owning, double-ended iterator over the keys of a map, in ascending order. Contracts see it as the list of
-/// the pieces of the keys still to come. (`IntoKeysMap` in range-set-blaze.)
+/// An owning, double-ended iterator over the keys of a map, in ascending order. Contracts see it as
+/// the list of the pieces of the keys still to come. (`IntoKeysMap` in range-set-blaze.)
 #[derive(Drop)]
-pub struct IntoKeys<T: Integer, V: MapValue + Copy, A: Allocator = Global> {
-    pub(crate) pairs: IntoIter<T, V, A>,
+pub struct IntoKeys<T: Integer, V: MapValue, A: Allocator = Global> {
+    // What is left of the pieces last taken from the front and from the back.
+    pub(crate) front: Option<OwnedPiece<T, V>>,
+    pub(crate) entries: Entries<T, (T, V), A>,
+    pub(crate) back: Option<OwnedPiece<T, V>>,
 }
 
-impl<T: Integer, V: MapValue + Copy, A: Allocator> Model for IntoKeys<T, V, A> {
+impl<T: Integer, V: MapValue, A: Allocator> Model for IntoKeys<T, V, A> {
     ghost use Rattle.std.specs.Prelude.{List};
     ghost use Rattle.rsb_integer.specs.Runs.{Interval};
+    ghost use Rattle.range_map_blaze.specs.Elements.{owned_left};
+    ghost use Rattle.range_map_blaze.specs.Map.{IsMapIn};
 
     ghost Value = { List (Interval × V) };
 
-    ghost view = { λ s. s.pairs };
+    ghost view = { λ s. owned_left T.rank V.seen s.front s.entries s.back };
+
+    ghost invariant = { λ s.
+        IsMapIn T.value_count (owned_left T.rank V.seen s.front s.entries s.back) };
 }
 
-impl<T: Integer, V: MapValue + Copy, A: Allocator> Iterator for IntoKeys<T, V, A> {
+impl<T: Integer, V: MapValue, A: Allocator> Iterator for IntoKeys<T, V, A> {
     type Item = T;
 
     ghost next_gives = { λ s item t. TakesLeast T.rank T.value_count (keys s) item (keys t) };
 
     ghost remaining = { λ s. at_most (count T.value_count (keys s)) };
 
+    // A value moves along with what is left of its piece.
     fn next(&mut self) -> Option<T> {
-        let (key, _) = self.pairs.next()?;
-        Some(key)
+        let piece = first_owned(&mut self.front, &mut self.entries, &mut self.back)?;
+        let run = piece.run;
+        self.front = without_first_owned(run, piece.value);
+        Some(run.start)
     }
 }
 
-impl<T: Integer, V: MapValue + Copy, A: Allocator> FusedIterator for IntoKeys<T, V, A> {}
+impl<T: Integer, V: MapValue, A: Allocator> FusedIterator for IntoKeys<T, V, A> {}
 
-impl<T: Integer, V: MapValue + Copy, A: Allocator> DoubleEndedIterator for IntoKeys<T, V, A> {
+impl<T: Integer, V: MapValue, A: Allocator> DoubleEndedIterator for IntoKeys<T, V, A> {
     ghost next_back_gives = { λ s item t.
         TakesGreatest T.rank T.value_count (keys s) item (keys t) };
 
     fn next_back(&mut self) -> Option<T> {
-        let (key, _) = self.pairs.next_back()?;
-        Some(key)
+        let piece = last_owned(&mut self.front, &mut self.entries, &mut self.back)?;
+        let run = piece.run;
+        self.back = without_last_owned(run, piece.value);
+        Some(run.end)
     }
 }
 

@@ -13,6 +13,7 @@ pub mod map_value;
 mod owned;
 mod pieces;
 pub mod range_values;
+mod windows;
 
 pub use elements::{Iter, Keys, Values};
 pub use into_elements::{IntoIter, IntoKeys, IntoValues};

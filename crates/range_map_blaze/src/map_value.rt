@@ -2,6 +2,7 @@
 
 ghost use Rattle.std.specs.Prelude.{◌≡◌, ◌↔◌, true};
 ghost use Rattle.std.proofs.Common.{ap, refl};
+ghost use Rattle.range_map_blaze.specs.laws.Text.{placeless, placeless-same, string-exact};
 ghost use Rattle.range_map_blaze.specs.laws.Value.{
   bool-exact,
   pair-exact,
@@ -19,9 +20,9 @@ use std::fmt::Debug;
 
 /// A type of values: `==` returns true exactly for equal values, and a clone is equal to its source.
 ///
-/// An implementation for your own type proves these two laws, and a third on what contracts see. If `==` does not compare all of a
-/// value, such as where a reference points, the implementation also states what contracts see of a
-/// value. It is a value itself, the same one for all that are equal.
+/// An implementation for your own type proves these two laws, and a third on what contracts see. If
+/// `==` does not compare all of a value, such as where a reference points, the implementation also
+/// states what contracts see of a value. It is a value itself, the same one for all that are equal.
 pub trait MapValue: Clone + Eq {
     // What contracts see of a value (docs/DECISIONS.md, values-as-seen).
     ghost seen: { Self → Self } = { λ value. value };
@@ -188,6 +189,17 @@ impl<'a> MapValue for &'a str {
     ghost settled = { λ value. refl };
 }
 
+// A `String` is seen as its text, without where that is and how much room it has.
+impl MapValue for String {
+    ghost seen = { placeless };
+
+    ghost exact = { λ left right. string-exact left right };
+
+    ghost cloned = { λ source copy same. placeless-same copy source same };
+
+    ghost settled = { λ value. placeless-same (placeless value) value refl };
+}
+
 /// A type of values whose text, by `Debug`, depends only on what contracts see of a value.
 ///
 /// A map can be written if its values have this trait. An implementation for your own type is a line,
@@ -267,5 +279,9 @@ impl<'a, V: ShownValue> ShownValue for &'a V {
 }
 
 impl<'a> ShownValue for &'a str {
+    ghost shown = { λ value. refl };
+}
+
+impl ShownValue for String {
     ghost shown = { λ value. refl };
 }

@@ -1,4 +1,4 @@
-//! The same as `held`, for entries that are owned and values that can be copied.
+//! The same as `held`, for entries that are owned.
 
 ghost use Rattle.std.specs.Prelude.{◌≡◌, ◌<◌, ◌≤◌, None};
 ghost use Rattle.rsb_storage.specs.Storage.{run_of};
@@ -18,7 +18,7 @@ use std::alloc::Allocator;
 use std::collections::btree_map::IntoIter;
 
 /// A run of keys, and the value that they all have.
-#[derive(Clone, Copy)]
+#[derive(Drop)]
 pub struct OwnedPiece<T, V> {
     pub run: Run<T>,
     pub value: V,
@@ -26,7 +26,7 @@ pub struct OwnedPiece<T, V> {
 
 /// Removes and returns the first piece of what is left: one that is held at the front, entries, and
 /// one that is held at the back. Returns `None` if nothing is left.
-pub(crate) fn first_owned<T: Integer, V: MapValue + Copy, A: Allocator>(
+pub(crate) fn first_owned<T: Integer, V: MapValue, A: Allocator>(
     front: &mut Option<OwnedPiece<T, V>>,
     entries: &mut IntoIter<T, (T, V), A>,
     back: &mut Option<OwnedPiece<T, V>>,
@@ -47,7 +47,7 @@ pub(crate) fn first_owned<T: Integer, V: MapValue + Copy, A: Allocator>(
 }
 
 /// Removes and returns the last piece of what is left. Returns `None` if nothing is left.
-pub(crate) fn last_owned<T: Integer, V: MapValue + Copy, A: Allocator>(
+pub(crate) fn last_owned<T: Integer, V: MapValue, A: Allocator>(
     front: &mut Option<OwnedPiece<T, V>>,
     entries: &mut IntoIter<T, (T, V), A>,
     back: &mut Option<OwnedPiece<T, V>>,
@@ -68,7 +68,7 @@ pub(crate) fn last_owned<T: Integer, V: MapValue + Copy, A: Allocator>(
 }
 
 /// Returns a run with a value without its first key, or `None` if it has no other.
-pub(crate) fn without_first_owned<T: Integer, V: MapValue + Copy>(
+pub(crate) fn without_first_owned<T: Integer, V: MapValue>(
     run: Run<T>,
     value: V,
 ) -> Option<OwnedPiece<T, V>>
@@ -88,7 +88,7 @@ pub(crate) fn without_first_owned<T: Integer, V: MapValue + Copy>(
 }
 
 /// Returns a run with a value without its last key, or `None` if it has no other.
-pub(crate) fn without_last_owned<T: Integer, V: MapValue + Copy>(
+pub(crate) fn without_last_owned<T: Integer, V: MapValue>(
     run: Run<T>,
     value: V,
 ) -> Option<OwnedPiece<T, V>>

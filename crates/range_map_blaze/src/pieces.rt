@@ -5,6 +5,7 @@ ghost use Rattle.std.specs.Prelude.{
   ◌↔◌,
   ◌+◌,
   ◌<◌,
+  ◌≤◌,
   [],
   length,
   fold,
@@ -37,10 +38,10 @@ use crate::key_ranges::KeyRanges;
 use crate::map_value::MapValue;
 use crate::range_values::{IntoRangeValues, RangeValues};
 use rsb_integer::Integer;
-use rsb_storage::run::Run;
+use rsb_storage::run::{Run, known};
 use std::alloc::{AllocError, Allocator};
 use std::collections::BTreeMap;
-use std::collections::btree_map::{IntoIter, Iter};
+use std::collections::btree_map::{IntoIter, Iter, Range};
 use std::hash::{Hash, Hasher};
 use std::marker::Model;
 
@@ -188,6 +189,31 @@ impl<T: Integer, V: MapValue, A: Allocator> Pieces<T, V, A> {
         ensures { pieces_of T.rank V.seen result ≡ self.now }
     {
         self.map.iter()
+    }
+
+    /// Returns the entries of the pieces, in ascending order, as the iterator over a part of them.
+    pub fn all_entries(&self) -> Range<'_, T, (T, V)>
+        ensures { pieces_of T.rank V.seen result ≡ self.now }
+    {
+        self.map.range(..)
+    }
+
+    /// Returns the entries of the pieces that start in a window, in ascending order.
+    pub fn starting_in(&self, window: Run<T>) -> Range<'_, T, (T, V)>
+        requires order { T.rank window.start ≤ T.rank window.end }
+        requires value { T.rank window.end < T.value_count }
+        ensures { pieces_of T.rank V.seen result ≡ pieces_below (T.rank window.end + 1)
+            (pieces_from (T.rank window.start) self.now) }
+    {
+        self.map.range(window.start..=window.end)
+    }
+
+    /// Returns an iterator over no entries.
+    pub fn no_entries(&self) -> Range<'_, T, (T, V)>
+        ensures { result ≡ [] }
+    {
+        let start = known(T::min_value());
+        self.map.range(start..start)
     }
 
     /// Returns the entries of the pieces, in ascending order, with an iterator that owns them.

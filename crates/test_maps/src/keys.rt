@@ -58,13 +58,53 @@ fn indexed(map: &RangeMapBlaze<u8, u8>, key: u8) -> u8 {
     if map.contains_key(key) { map[key] } else { 0 }
 }
 
-/// Whether a map passed by value gives the same, and the keys between bounds are those inside.
+/// Bounds, how many keys lie between them, and the sum of these keys.
+static PARTS: [(u8, u8, u16, u16); 10] = [
+    (0, 255, 8, 545),
+    (2, 11, 3, 23),
+    (1, 10, 3, 13),
+    (11, 11, 1, 11),
+    (10, 12, 3, 33),
+    (3, 9, 0, 0),
+    (13, 253, 0, 0),
+    (12, 254, 2, 266),
+    (255, 255, 1, 255),
+    (9, 3, 0, 0),
+];
+
+/// Whether the keys between bounds are those inside, from the front and from the back.
+fn walks_inside(map: &RangeMapBlaze<u8, u8>) -> bool {
+    for (first, last, count, sum) in &PARTS {
+        let mut left = (*count, *sum);
+        for (key, value) in map.range(*first..=*last) {
+            if map.get(key) != Some(value) {
+                return false;
+            }
+            left = (left.0.wrapping_sub(1), left.1.wrapping_sub(u16::from(key)));
+        }
+        let mut right = (*count, *sum);
+        for (key, value) in map.range(*first..=*last).rev() {
+            if map.get(key) != Some(value) {
+                return false;
+            }
+            right = (
+                right.0.wrapping_sub(1),
+                right.1.wrapping_sub(u16::from(key)),
+            );
+        }
+        if left != (0, 0) || right != (0, 0) {
+            return false;
+        }
+    }
+    let mut inside = map.range(2..12);
+    inside.next() == Some((2, &6))
+        && inside.next_back() == Some((11, &5))
+        && inside.next() == Some((10, &5))
+        && inside.next().is_none()
+}
+
+/// Whether a map passed by value gives the same.
 fn owned_walks(map: RangeMapBlaze<u8, u8>) -> Result<bool, AllocError> {
-    let mut inside = map.range(2..=11)?;
-    let is_inside = inside.next() == Some((2, 6))
-        && inside.next_back() == Some((11, 5))
-        && inside.next() == Some((10, 5))
-        && inside.next().is_none();
     let mut keys = map.clone()?.into_keys();
     let mut values = map.clone()?.into_values();
     for (key, value) in map {
@@ -72,7 +112,7 @@ fn owned_walks(map: RangeMapBlaze<u8, u8>) -> Result<bool, AllocError> {
             return Ok(false);
         }
     }
-    Ok(is_inside && keys.next().is_none() && values.next_back().is_none())
+    Ok(keys.next().is_none() && values.next_back().is_none())
 }
 
 /// Whether maps have these numbers of keys.
@@ -157,6 +197,7 @@ fn keys_come_in_order(rt: HostRuntime) -> Result<(), Fail> {
         assert!(rt; walks(&map, from_front), "{from_front} from the front");
     }
     assert!(rt; walks_parts(&map));
+    assert!(rt; walks_inside(&map));
     assert!(rt; indexed(&map, 11) == 5 && indexed(&map, 255) == 7 && indexed(&map, 3) == 0);
     assert!(rt; owned_walks(map)?);
     Ok(())

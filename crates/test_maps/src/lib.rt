@@ -23,3 +23,5 @@ mod refusals;
 mod rows;
 #[cfg(test)]
 mod slots;
+#[cfg(test)]
+mod texts;

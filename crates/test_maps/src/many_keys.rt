@@ -58,13 +58,23 @@ fn owned_values_add_up(map: &Map) -> Result<bool, AllocError> {
     Ok(sum == SUM && count == 20_000)
 }
 
-/// Whether a part of the map has the right number of keys.
-fn part_is_walked(map: &Map) -> Result<bool, AllocError> {
+/// Whether a part of the map has the right number of keys, and its last key is in it.
+fn part_is_walked(map: &Map) -> bool {
     let mut count = 0u32;
-    for _ in map.range(3_000..=20_999)? {
+    for _ in map.range(3_000..=20_998) {
         count = count.saturating_add(1);
     }
-    Ok(count == 12_000)
+    count == 12_000 && map.range(3_001..=20_997).next_back() == Some((20_997, &6_999))
+}
+
+/// Whether look-ups find keys and ranges, and the ends of the map.
+fn is_looked_up(map: &Map) -> bool {
+    map.range_at(15_001) == Some((15_000..=15_001, &5_000))
+        && map.get_key_value(29_998) == Some((29_998, &9_999))
+        && map.first_key_value() == Some((0, &0))
+        && map.last_key_value() == Some((29_998, &9_999))
+        && map.contains_key(14_998)
+        && !map.contains_key(14_999)
 }
 
 /// Whether closures keep the right numbers of keys and ranges.
@@ -112,10 +122,11 @@ fn shown(alloc: Global, map: &Map) -> Result<usize, AllocError> {
 #[test]
 fn twenty_thousand_keys_are_walked(rt: HostRuntime) -> Result<(), Fail> {
     let map = pairs(rt.alloc())?;
+    assert!(rt; is_looked_up(&map));
     assert!(rt; values_add_up(&map));
     assert!(rt; values_add_up_from_the_back(&map));
     assert!(rt; owned_values_add_up(&map)?);
-    assert!(rt; part_is_walked(&map)?);
+    assert!(rt; part_is_walked(&map));
     assert!(rt; shown(rt.alloc(), &map)? == 10_000);
     Ok(())
 }

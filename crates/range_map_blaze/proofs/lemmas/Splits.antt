@@ -40,7 +40,7 @@ module _ {V : Type 0} (n : ℕ) (pieces : List (Interval × V)) (canonical : IsM
           let found = found-piece pieces rank value is in (found.0, found.1, found.2)
 
   -- The last piece ends last.
-  ends-last : (low : ℕ) (front : List (Interval × V)) (last other : Interval × V)
+  pub ends-last : (low : ℕ) (front : List (Interval × V)) (last other : Interval × V)
       → IsMapFrom n low (front ++ last ∷ []) → Contains (front ++ last ∷ []) other
       → other.0.last ≤ last.0.last
   ends-last low [] last other canon found = elim (Contains-cases last [] other found) [

@@ -9,7 +9,7 @@ ghost use Rattle.range_map_blaze.specs.Map.{value_at, IsMapIn, IsPut};
 ghost use Rattle.range_map_blaze.specs.Parts.{after, before};
 
 use crate::cut::{
-    close_after, joined_end, joined_start, open_after, remove_inside, shorten_before,
+    close_after, joined_end, joined_start, open_after, remove_inside, shorten_before, start_past,
 };
 use crate::map::RangeMapBlaze;
 use crate::map_value::MapValue;
@@ -57,8 +57,8 @@ impl<T: Integer, V: MapValue, A: Allocator + Clone> RangeMapBlaze<T, V, A> {
     }
 }
 
-/// Gives the keys of a run a value. If allocation fails, or cloning a value does, the pieces are
-/// unchanged.
+/// Gives the keys of a run a value. If the run lies past all keys, makes no look-up and clones
+/// nothing. If allocation fails, or cloning a value does, the pieces are unchanged.
 pub(crate) fn put_run<T: Integer, V: MapValue, A: Allocator + Clone>(
     pieces: &mut Pieces<T, V, A>,
     run: Run<T>,
@@ -74,6 +74,15 @@ pub(crate) fn put_run<T: Integer, V: MapValue, A: Allocator + Clone>(
     ensures count { length pieces.new ≤ length pieces.old + 2 }
     ensures err { OnErr result (pieces.new ≡ pieces.old) }
 {
+    // Pairs in ascending order are put without a search (docs/DECISIONS.md, past-all-keys).
+    if let Some(start) = start_past(pieces, run.start, &value) {
+        let run = Run {
+            start,
+            end: run.end,
+        };
+        pieces.put(run, value)?;
+        return Ok(());
+    }
     let start = joined_start(pieces, run.start, &value);
     let end = joined_end(pieces, run.end, &value);
     replace_run(pieces, Run { start, end }, value)?;

@@ -1,6 +1,6 @@
 //! Walks over the keys of a map and their values.
 
-ghost use Rattle.std.specs.Prelude.{◌≡◌, IfOk};
+ghost use Rattle.std.specs.Prelude.{◌≡◌};
 ghost use Rattle.rsb_storage.specs.Set.{ranks_in};
 ghost use Rattle.range_map_blaze.specs.Map.{value_at, IsWithin};
 
@@ -8,9 +8,10 @@ use crate::elements::{Iter, Keys, Values};
 use crate::into_elements::{IntoIter, IntoKeys, IntoValues};
 use crate::map::RangeMapBlaze;
 use crate::map_value::MapValue;
-use range_set_blaze::RangeSetBlaze;
+use crate::windows::{no_pairs, pairs_between};
 use rsb_integer::Integer;
-use std::alloc::{AllocError, Allocator};
+use rsb_storage::bounds::run_between;
+use std::alloc::Allocator;
 use std::ops::RangeBounds;
 
 impl<T: Integer, V: MapValue, A: Allocator> RangeMapBlaze<T, V, A> {
@@ -21,7 +22,7 @@ impl<T: Integer, V: MapValue, A: Allocator> RangeMapBlaze<T, V, A> {
     {
         Iter {
             front: None,
-            entries: self.pieces.entries(),
+            entries: self.pieces.all_entries(),
             back: None,
         }
     }
@@ -41,6 +42,23 @@ impl<T: Integer, V: MapValue, A: Allocator> RangeMapBlaze<T, V, A> {
     {
         Values { pairs: self.iter() }
     }
+
+    /// Returns the keys between two bounds in ascending order, each with a reference to its value,
+    /// as a double-ended iterator. If the bounds are empty or reversed, there are none. Does not
+    /// allocate. The call takes O(log n) time on a map of n ranges. (`RangeMapBlaze::range`.)
+    ///
+    /// The contract says nothing about a `RangeBounds` type whose own contract does not specify its
+    /// bounds, or about a `RangeInclusive` that was iterated to its end.
+    pub fn range<R: RangeBounds<T>>(&self, range: R) -> Iter<'_, T, V>
+        ensures { R.has_bounds range → IsWithin (value_at self.now)
+            (ranks_in T.rank T.value_count R.start_bound R.end_bound range) (value_at result) }
+    {
+        // The values are lent (docs/DECISIONS.md, range-of-map-lends).
+        match run_between(&range) {
+            Some(window) => pairs_between(&self.pieces, window),
+            None => no_pairs(&self.pieces),
+        }
+    }
 }
 
 impl<'a, T: Integer, V: MapValue, A: Allocator> IntoIterator for &'a RangeMapBlaze<T, V, A> {
@@ -55,17 +73,21 @@ impl<'a, T: Integer, V: MapValue, A: Allocator> IntoIterator for &'a RangeMapBla
     }
 }
 
-impl<T: Integer, V: MapValue + Copy, A: Allocator> RangeMapBlaze<T, V, A> {
+impl<T: Integer, V: MapValue, A: Allocator> RangeMapBlaze<T, V, A> {
     /// Returns the keys in ascending order, as a double-ended iterator that owns the map. Does not
     /// allocate. (`RangeMapBlaze::into_keys`.)
     pub fn into_keys(self) -> IntoKeys<T, V, A>
         ensures { result ≡ self }
     {
         IntoKeys {
-            pairs: self.into_iter(),
+            front: None,
+            entries: self.pieces.into_entries(),
+            back: None,
         }
     }
+}
 
+impl<T: Integer, V: MapValue + Copy, A: Allocator> RangeMapBlaze<T, V, A> {
     /// Returns the value of each key, in ascending order of the keys, as a double-ended iterator
     /// that owns the map. Does not allocate. (`RangeMapBlaze::into_values`.)
     pub fn into_values(self) -> IntoValues<T, V, A>
@@ -91,24 +113,5 @@ impl<T: Integer, V: MapValue + Copy, A: Allocator> IntoIterator for RangeMapBlaz
             entries: self.pieces.into_entries(),
             back: None,
         }
-    }
-}
-
-impl<T: Integer, V: MapValue + Copy, A: Allocator + Copy> RangeMapBlaze<T, V, A> {
-    /// Returns the keys between two bounds in ascending order, each with its value, as a
-    /// double-ended iterator that owns them. If the bounds are empty or reversed, the iterator is
-    /// empty. Copies the map first. If allocation fails, or cloning a value does, no iterator is
-    /// made. (`RangeMapBlaze::range`.)
-    ///
-    /// The contract says nothing about a `RangeBounds` type whose own contract does not specify its
-    /// bounds, or about a `RangeInclusive` that was iterated to its end.
-    pub fn range<R: RangeBounds<T>>(&self, range: R) -> Result<IntoIter<T, V, A>, AllocError>
-        ensures { R.has_bounds range → IfOk result (λ pairs. IsWithin (value_at self.now)
-            (ranks_in T.rank T.value_count R.start_bound R.end_bound range) (value_at pairs)) }
-    {
-        let mut set = RangeSetBlaze::new(self.alloc);
-        set.ranges_insert(range)?;
-        let map = self.clone()?.intersection_with_set(&set)?;
-        Ok(map.into_iter())
     }
 }
