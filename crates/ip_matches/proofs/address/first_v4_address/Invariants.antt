@@ -1,5 +1,4 @@
 use Rattle.std.proofs.Common.{ℕ, ◌≤◌, Option, length}
-
 use Rattle.ip_sets.specs.Address.{IsV4}
 use Rattle.ip_sets.specs.LineParts.{Reads, parts}
 use Rattle.ip_matches.specs.FoundAddress.{IsFirst}
