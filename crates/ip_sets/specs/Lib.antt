@@ -3,6 +3,7 @@ pub mod AddressRange
 pub mod Blocks
 pub mod BlocksLeft
 pub mod Excerpt
+pub mod Form
 pub mod Gathering
 pub mod Groups
 pub mod Line
@@ -12,6 +13,7 @@ pub mod ListFault
 pub mod Operation
 pub mod Pairs
 pub mod Plain
+pub mod Reading
 pub mod Reason
 pub mod Selection
 pub mod laws

@@ -1,7 +1,8 @@
 -- The parts of a text.
-use Rattle.std.specs.Prelude.{◌≡◌, ℕ, ◌-◌, ◌==◌, Option, MatchOption, List, [], ◌∷◌, drop, length, take}
-use Rattle.std.specs.Char.{is_ascii_whitespace}
-use Rattle.std.specs.List.{prefix_len, slice_split, suffix_len}
+use Rattle.std.specs.Prelude.{◌≡◌, ℕ, ◌-◌, ◌==◌, ◌&&◌, Bool, Option, Some, None, MatchOption, List, [], ◌∷◌, drop, if◌then◌else◌, length, nat_lt, take}
+use Rattle.std.specs.Char.{is_ascii_digit, is_ascii_whitespace}
+use Rattle.std.specs.List.{list_all, prefix_len, slice_split, suffix_len}
+use Rattle.std.specs.Str.Parse.{digits_value}
 use Rattle.ip_sets.specs.declared.line.parts.Parts.{Parts}
 use Rattle.ip_sets.specs.declared.line.parts.Parts.TheVariants.{One, Two, More}
 
@@ -16,6 +17,16 @@ without_last_blanks bytes = take (length bytes - suffix_len is_ascii_whitespace 
 -- The bytes without the white space at both ends.
 abbrev pub trimmed : List ℕ → List ℕ
 trimmed bytes = without_last_blanks (without_first_blanks bytes)
+
+-- Whether the text is not empty.
+abbrev pub has_bytes : List ℕ → Bool
+has_bytes text = nat_lt 0 (length text)
+
+-- The number that a text writes in decimal, if it is below a limit. It may begin with zeros.
+abbrev pub number_below : ℕ → List ℕ → Option ℕ
+number_below limit text = if has_bytes text
+    && (list_all is_ascii_digit text && nat_lt (digits_value 10 text) limit)
+    then Some (digits_value 10 text) else None
 
 -- The parts of a text between separators. A text without a separator is one part.
 abbrev pub parts : ℕ → List ℕ → List (List ℕ)

@@ -1,23 +1,33 @@
 -- What a list of addresses selects, line by line.
-use Rattle.std.specs.Prelude.{◌≡◌, ◌⊎◌, ◌↔◌, ℕ, ◌+◌, ◌≤◌, ◌++◌, All, Any, Bool, IsTrue, List, [], ◌∷◌, Option, Some, codes, decimal, drop, filter, flat_map, if◌then◌else◌, length, map, nat_eq, nat_lt}
+use Rattle.std.specs.Prelude.{◌≡◌, ◌⊎◌, ◌↔◌, ℕ, ◌+◌, ◌≤◌, ◌++◌, All, Any, Bool, IsTrue, List, [], ◌∷◌, Option, Some, codes, decimal, drop, filter, flat_map, if◌then◌else◌, length, map, nat_eq}
 use Rattle.std.specs.List.{starts_with}
 use Rattle.std.specs.Str.Lines.{lines}
 use Rattle.range_set_blaze.specs.Selection.{Selection}
 use Rattle.ip_sets.specs.declared.line.Line.{Line}
+use Rattle.ip_sets.specs.declared.line.reading.Reading.{Reading}
 use Rattle.ip_sets.specs.declared.list.bad_line.BadLine.{BadLine}
 use Rattle.ip_sets.specs.Excerpt.{excerpt, excerpt_of}
-use Rattle.ip_sets.specs.Line.{IsLine, MeansV4, MeansV6, content}
-use Rattle.ip_sets.specs.Reason.{IsReason, reason_text}
+use Rattle.ip_sets.specs.Line.{content}
+use Rattle.ip_sets.specs.Reading.{IsLineBy, IsReasonBy, MeansV4By, MeansV6By, plain, reported}
+use Rattle.ip_sets.specs.Reason.{reason_text}
+pub use Rattle.ip_sets.specs.LineParts.{has_bytes}
 
--- ---- lines
+-- ---- lines. Each word that ends in `By` is about lines that are read in a given way, and the one
+-- without it about plain lines.
 
 -- Whether the line has a meaning.
+abbrev pub IsGoodLineBy : Reading → List ℕ → Type 0
+IsGoodLineBy reading line = (what : Line) × IsLineBy reading line what
+
 abbrev pub IsGoodLine : List ℕ → Type 0
-IsGoodLine line = (what : Line) × IsLine line what
+IsGoodLine line = IsGoodLineBy plain line
 
 -- Whether the line has no meaning.
+abbrev pub IsBadLineBy : Reading → List ℕ → Type 0
+IsBadLineBy reading line = (what : Line) → ¬ IsLineBy reading line what
+
 abbrev pub IsBadLine : List ℕ → Type 0
-IsBadLine line = (what : Line) → ¬ IsLine line what
+IsBadLine line = IsBadLineBy plain line
 
 -- Whether the line means a range of addresses of a family, and the number is that of one of them.
 pub record HasAddress (Means : List ℕ → ℕ → ℕ → Type 0) (number : ℕ) (line : List ℕ) : Type 0 where
@@ -58,55 +68,75 @@ list_lines bytes = lines (without_order_mark bytes)
 
 -- Whether each line of the bytes has a meaning, and together they mean exactly these IPv4 and IPv6
 -- addresses.
-pub record IsListOf (bytes : List ℕ) (v4 v6 : Selection) : Type 0 where
-  pub good : All IsGoodLine (list_lines bytes)
-  pub v4_addresses : AreAddressesOf MeansV4 (list_lines bytes) v4
-  pub v6_addresses : AreAddressesOf MeansV6 (list_lines bytes) v6
+pub record IsListBy (reading : Reading) (bytes : List ℕ) (v4 v6 : Selection) : Type 0 where
+  pub good : All (IsGoodLineBy reading) (list_lines bytes)
+  pub v4_addresses : AreAddressesOf (MeansV4By reading) (list_lines bytes) v4
+  pub v6_addresses : AreAddressesOf (MeansV6By reading) (list_lines bytes) v6
+
+abbrev pub IsListOf : List ℕ → Selection → Selection → Type 0
+IsListOf bytes v4 v6 = IsListBy plain bytes v4 v6
 
 -- Whether the line with this number has no meaning, and this is reported of it: its number, a reason
--- that holds of its content, and the start of that content.
-pub record IsReportOf (bad : BadLine) (number : ℕ) (line : List ℕ) : Type 0 where
-  pub is_bad : IsBadLine line
+-- that holds of it, and the start of the text that is bad.
+pub record IsReportBy (reading : Reading) (bad : BadLine) (number : ℕ) (line : List ℕ) : Type 0 where
+  pub is_bad : IsBadLineBy reading line
   pub counted : bad.number ≡ number
-  pub reason : IsReason bad.reason (content line)
-  pub text : excerpt_of bad.text ≡ excerpt (content line)
+  pub reason : IsReasonBy reading bad.reason line
+  pub text : excerpt_of bad.text ≡ excerpt (reported reading line)
+
+-- Of a plain line, the reason holds of its content, and the text is the start of that content.
+abbrev pub IsReportOf : BadLine → ℕ → List ℕ → Type 0
+IsReportOf bad number line = IsReportBy plain bad number line
 
 -- Whether these are the reports of the lines without a meaning, in order, if the first line has this
 -- number.
-abbrev pub AreReportsFrom : ℕ → List (List ℕ) → List BadLine → Type 0
-AreReportsFrom number [] reports = reports ≡ []
-AreReportsFrom number (line ∷ list) reports =
-    (IsGoodLine line × AreReportsFrom (number + 1) list reports)
+abbrev pub AreReportsBy : Reading → ℕ → List (List ℕ) → List BadLine → Type 0
+AreReportsBy reading number [] reports = reports ≡ []
+AreReportsBy reading number (line ∷ list) reports =
+    (IsGoodLineBy reading line × AreReportsBy reading (number + 1) list reports)
     ⊎ ((bad : BadLine) × (others : List BadLine) × (reports ≡ bad ∷ others)
-    × IsReportOf bad number line × AreReportsFrom (number + 1) list others)
+    × IsReportBy reading bad number line × AreReportsBy reading (number + 1) list others)
+
+abbrev pub AreReportsFrom : ℕ → List (List ℕ) → List BadLine → Type 0
+AreReportsFrom number list reports = AreReportsBy plain number list reports
 
 -- Whether these are the reports of the lines without a meaning, and the other lines together mean
 -- exactly these IPv4 and IPv6 addresses. Lines are counted from 1.
-pub record IsListPast (bytes : List ℕ) (reports : List BadLine) (v4 v6 : Selection) : Type 0 where
-  pub reported : AreReportsFrom 1 (list_lines bytes) reports
-  pub v4_addresses : AreAddressesOf MeansV4 (list_lines bytes) v4
-  pub v6_addresses : AreAddressesOf MeansV6 (list_lines bytes) v6
+pub record IsListPastBy (reading : Reading) (bytes : List ℕ) (reports : List BadLine)
+    (v4 v6 : Selection) : Type 0 where
+  pub reported : AreReportsBy reading 1 (list_lines bytes) reports
+  pub v4_addresses : AreAddressesOf (MeansV4By reading) (list_lines bytes) v4
+  pub v6_addresses : AreAddressesOf (MeansV6By reading) (list_lines bytes) v6
+
+abbrev pub IsListPast : List ℕ → List BadLine → Selection → Selection → Type 0
+IsListPast bytes reports v4 v6 = IsListPastBy plain bytes reports v4 v6
 
 -- Whether the report is that of the first line that has no meaning.
-pub record IsFirstBadLine (bytes : List ℕ) (bad : BadLine) : Type 0 where
+pub record IsFirstBadLineBy (reading : Reading) (bytes : List ℕ) (bad : BadLine) : Type 0 where
   pub before : List (List ℕ)
   pub line : List ℕ
   pub after : List (List ℕ)
   pub parts : list_lines bytes ≡ before ++ line ∷ after
-  pub report : IsReportOf bad (length before + 1) line
-  pub first : All IsGoodLine before
+  pub report : IsReportBy reading bad (length before + 1) line
+  pub first : All (IsGoodLineBy reading) before
+
+abbrev pub IsFirstBadLine : List ℕ → BadLine → Type 0
+IsFirstBadLine bytes bad = IsFirstBadLineBy plain bytes bad
 
 -- Whether the report is that of the first line that has no meaning, and the last bytes, the rest,
 -- are the lines after it.
-abbrev pub IsPastBadLine : List ℕ → List ℕ → BadLine → Type 0
-IsPastBadLine bytes rest bad =
-    (first : IsFirstBadLine bytes bad) × (first.after ≡ lines rest)
+abbrev pub IsPastBadLineBy : Reading → List ℕ → List ℕ → BadLine → Type 0
+IsPastBadLineBy reading bytes rest bad =
+    (first : IsFirstBadLineBy reading bytes bad) × (first.after ≡ lines rest)
 
 -- Whether the bytes that are left are the lines after the first bad one, of which this is the
 -- report.
+abbrev pub LeavesPastBadLineBy : Reading → List ℕ → Option (List ℕ) → BadLine → Type 0
+LeavesPastBadLineBy reading bytes left bad =
+    (rest : List ℕ) × (left ≡ Some rest) × IsPastBadLineBy reading bytes rest bad
+
 abbrev pub LeavesPastBadLine : List ℕ → Option (List ℕ) → BadLine → Type 0
-LeavesPastBadLine bytes left bad =
-    (rest : List ℕ) × (left ≡ Some rest) × IsPastBadLine bytes rest bad
+LeavesPastBadLine bytes left bad = LeavesPastBadLineBy plain bytes left bad
 
 -- ---- reports in words
 
@@ -124,10 +154,6 @@ abbrev pub reports_text : List ℕ → List BadLine → List ℕ
 reports_text name reports = flat_map (report_line name) reports
 
 -- ---- what does not count
-
--- Whether the text is not empty.
-abbrev pub has_bytes : List ℕ → Bool
-has_bytes text = nat_lt 0 (length text)
 
 -- What each line has besides comments and the white space around it, without the lines that have
 -- nothing else.

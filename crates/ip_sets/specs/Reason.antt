@@ -6,7 +6,7 @@ use Rattle.std.specs.Range.{range_inclusive_end, range_inclusive_start}
 use Rattle.std.specs.Str.Parse.{digits_value}
 use Rattle.std.specs.declared.ops.RangeInclusive.{RangeInclusive}
 use Rattle.ip_sets.specs.declared.line.reasons.Reason.{Reason}
-use Rattle.ip_sets.specs.declared.line.reasons.Reason.TheVariants.{Above255, Brackets, LeadingZero, LongV4, LongV6, Mask, Name, Other, Reversed, TwoFamilies, Zone}
+use Rattle.ip_sets.specs.declared.line.reasons.Reason.TheVariants.{Above255, Brackets, Exception, FewColumns, LeadingZero, LongV4, LongV6, Mask, Name, NoRange, NotSaved, Other, Reversed, TwoFamilies, Zone}
 use Rattle.ip_sets.specs.Address.{IsV4, IsV6}
 use Rattle.ip_sets.specs.AddressRange.{WritesEnd, mask_of}
 use Rattle.ip_sets.specs.LineParts.{parts, trimmed}
@@ -112,7 +112,8 @@ abbrev pub OnTwo : (List ℕ → List ℕ → Type 0) → List (List ℕ) → Ty
 OnTwo Fact (first ∷ second ∷ []) = Fact first second
 OnTwo Fact _ = ⊥
 
--- Whether a reason holds of a text. 37 is the code of `%`, 45 of `-` and 47 of `/`.
+-- Whether a reason holds of a text. 37 is the code of `%`, 45 of `-` and 47 of `/`. The last four
+-- are reasons why a line has no such text.
 abbrev pub IsFact : Reason → List ℕ → Type 0
 IsFact Brackets text = IsTrue (list_any is_bracket text)
 IsFact Zone text = IsTrue (list_any (λ byte. byte == 37) text)
@@ -125,6 +126,10 @@ IsFact LeadingZero text = IsTrue (is_decimal text && has_leading_zero text)
 IsFact Above255 text = IsTrue (is_decimal text && has_number_above 255 text)
 IsFact Name text = IsTrue (is_name text)
 IsFact Other text = Unit {0}
+IsFact FewColumns text = ⊥
+IsFact NotSaved text = ⊥
+IsFact Exception text = ⊥
+IsFact NoRange text = ⊥
 
 -- Whether a reason holds of a text, and is `Other` only if no other does.
 pub record IsReason (reason : Reason) (text : List ℕ) : Type 0 where
@@ -146,3 +151,7 @@ reason_text LeadingZero = codes "a leading zero, which may mean octal"
 reason_text Above255 = codes "a number above 255"
 reason_text Name = codes "a name, not an address"
 reason_text Other = codes "not an address, block or range"
+reason_text FewColumns = codes "too few columns"
+reason_text NotSaved = codes "not a line of ipset save"
+reason_text Exception = codes "nomatch, netmask or bitmask"
+reason_text NoRange = codes "no range after a colon"

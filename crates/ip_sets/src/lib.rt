@@ -14,10 +14,11 @@ pub mod text;
 pub use crate::blocks::{
     Address, Block, Blocks, IntoBlocks, blocks_of, maximal_blocks_are_fewest, set_blocks,
 };
-pub use crate::line::{Line, Reason, parse_line};
+pub use crate::line::{Line, ListForm, PLAIN, Reading, Reason, parse_line, parse_line_by};
 pub use crate::list::{
-    AddressList, BadLine, Excerpt, ListFault, comments_select_nothing, list_selects_one,
-    order_mark_selects_nothing, read_list, read_list_past_bad_lines,
+    AddressList, BadLine, Excerpt, ListFault, comments_select_nothing, list_by_selects_one,
+    list_selects_one, order_mark_selects_nothing, read_list, read_list_by, read_list_past_bad_lines,
+    read_list_past_bad_lines_by,
 };
 pub use crate::operations::{Operation, combine};
 pub use crate::set::{AddressRanges, AddressSet};

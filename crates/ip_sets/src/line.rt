@@ -5,20 +5,28 @@ ghost use Rattle.std.specs.List.{position};
 ghost use Rattle.ip_sets.specs.Line.{IsLine, begins_comment, content};
 ghost use Rattle.ip_sets.specs.LineParts.{Reads};
 ghost use Rattle.ip_sets.specs.Plain.{BeginsWithLine};
+ghost use Rattle.ip_sets.specs.Reading.{IsLineBy};
 
 pub(crate) mod family;
+pub(crate) mod form;
 pub(crate) mod groups;
+pub(crate) mod mapped;
 pub(crate) mod mask;
 pub(crate) mod octets;
 pub(crate) mod parts;
 pub(crate) mod plain;
 pub(crate) mod prefix;
 pub(crate) mod range;
+pub(crate) mod reading;
 pub(crate) mod reasons;
 
+use crate::line::form::entry;
+pub use crate::line::form::ListForm;
+use crate::line::mapped::as_v4;
 use crate::line::parts::trimmed;
 use crate::line::plain::plain_line;
 use crate::line::range::{bracketed, range};
+pub use crate::line::reading::{PLAIN, Reading};
 pub use crate::line::reasons::Reason;
 use memchr::memchr;
 use std::ops::RangeInclusive;
@@ -58,6 +66,19 @@ pub fn parse_line(line: &[u8]) -> Option<Line>
     Some(Line::V6(addresses))
 }
 
+/// Returns what a line means that is read in a given way, or `None` if it is bad: what its entry
+/// means as a plain line. IPv4-mapped addresses mean IPv4 addresses if that is asked for. The line may
+/// have a line feed at its end.
+pub fn parse_line_by(reading: Reading, line: &[u8]) -> Option<Line>
+    ensures { Reads result (IsLineBy reading line.now) }
+{
+    let meaning = parse_line(entry(reading.form, line)?)?;
+    if reading.map_v4 {
+        return Some(as_v4(meaning));
+    }
+    Some(meaning)
+}
+
 /// The first line of some bytes.
 #[derive(Drop)]
 pub(crate) struct FirstLine<'a> {
@@ -69,11 +90,29 @@ pub(crate) struct FirstLine<'a> {
 
 /// Returns the first line of the bytes, if they have a line feed.
 #[inline(always)]
-pub(crate) fn first_line(bytes: &[u8]) -> Option<FirstLine<'_>>
+pub(crate) fn first_line_by(reading: Reading, bytes: &[u8]) -> Option<FirstLine<'_>>
+    ensures { IfSome result (λ first. BeginsWithLine
+        (λ line. Reads first.meaning (IsLineBy reading line)) bytes.now first.rest.now) }
+{
+    if let Reading { form: ListForm::Plain, map_v4: false } = reading {
+        // Most lines are plain.
+        if let Some(first) = first_plain_line(bytes) {
+            return Some(first);
+        }
+    }
+    let end = memchr(b'\n', bytes)?;
+    let meaning = parse_line_by(reading, &bytes[..end]);
+    let rest = &bytes[end + 1..];
+    Some(FirstLine { meaning, rest })
+}
+
+// Returns the first line of the bytes, if it is one of the commonest lines. `None` means only that
+// the fast path does not apply.
+#[inline(always)]
+fn first_plain_line(bytes: &[u8]) -> Option<FirstLine<'_>>
     ensures { IfSome result (λ first. BeginsWithLine (λ line. Reads first.meaning (IsLine line))
         bytes.now first.rest.now) }
 {
-    // Most lines are plain.
     if let Some((addresses, rest)) = plain_line::<u32>(bytes) {
         let meaning = Some(Line::V4(addresses));
         return Some(FirstLine { meaning, rest });
@@ -82,10 +121,7 @@ pub(crate) fn first_line(bytes: &[u8]) -> Option<FirstLine<'_>>
         let meaning = Some(Line::V6(addresses));
         return Some(FirstLine { meaning, rest });
     }
-    let end = memchr(b'\n', bytes)?;
-    let meaning = parse_line(&bytes[..end]);
-    let rest = &bytes[end + 1..];
-    Some(FirstLine { meaning, rest })
+    None
 }
 
 /// Returns what the line has before its comment, without the white space around it.

@@ -2,12 +2,20 @@
 
 ghost use Rattle.std.specs.Prelude.{◌≡◌, ◌↔◌, ℕ, ◌≤◌, ◌++◌, List, []};
 ghost use Rattle.ip_sets.specs.declared.line.Line.{Line};
+ghost use Rattle.ip_sets.specs.declared.line.reading.Reading.{Reading};
 ghost use Rattle.ip_sets.specs.AddressRange.{SharesBits, block_end, block_start};
 ghost use Rattle.ip_sets.specs.Line.{AreBlanks, IsComment, IsContent, IsLine, content};
+ghost use Rattle.ip_sets.specs.Reading.{IsLineBy};
 
 /// A line has at most one meaning.
 pub fn one_meaning()
     ensures { (line : List ℕ) (a b : Line) → IsLine line a → IsLine line b → a ≡ b }
+{}
+
+/// In each way to read it, a line has at most one meaning.
+pub fn one_meaning_by()
+    ensures { (reading : Reading) (line : List ℕ) (a b : Line) → IsLineBy reading line a
+        → IsLineBy reading line b → a ≡ b }
 {}
 
 /// A block has exactly the addresses whose first bits are those of the address that it is written

@@ -21,9 +21,13 @@ ghost use Rattle.std.specs.Prelude.{
 ghost use Rattle.range_set_blaze.specs.Runs.{members};
 ghost use Rattle.ip_sets.specs.List.{
   IsFirstBadLine,
+  IsFirstBadLineBy,
+  IsListBy,
   IsListOf,
   IsListPast,
+  IsListPastBy,
   LeavesPastBadLine,
+  LeavesPastBadLineBy,
   list_lines,
   report_line,
   reports_text,
@@ -36,12 +40,15 @@ mod gathered;
 mod laws;
 mod order_mark;
 
+use crate::line::reading::{PLAIN, Reading};
 use crate::set::AddressSet;
 pub use bad_line::BadLine;
 pub use excerpt::Excerpt;
 pub use fault::ListFault;
 use gathered::{Gathered, too_many_lines};
-pub use laws::{comments_select_nothing, list_selects_one, order_mark_selects_nothing};
+pub use laws::{
+    comments_select_nothing, list_by_selects_one, list_selects_one, order_mark_selects_nothing,
+};
 use std::alloc::{Allocator, Global};
 use std::io::{BufRead, Write};
 
@@ -77,10 +84,31 @@ pub fn read_list<A: Allocator + Copy, R: BufRead>(
         → IfSome (R.remaining input.old) (λ bytes.
         LeavesPastBadLine bytes (R.remaining input.new) bad) }
 {
+    read_list_by(alloc, PLAIN, input)
+}
+
+/// Reads a list as `read_list` does, but each line in a given way (`parse_line_by`).
+pub fn read_list_by<A: Allocator + Copy, R: BufRead>(
+    alloc: A,
+    reading: Reading,
+    input: &mut R,
+) -> Result<AddressList<A>, ListFault>
+    ensures list { IfOk result (λ list. IfSome (R.remaining input.old) (λ bytes.
+        IsListBy reading bytes (members list.v4) (members list.v6))) }
+    ensures run_count { IfOk result (λ list. IfSome (R.remaining input.old) (λ bytes.
+        length list.v4 + length list.v6 ≤ length (list_lines bytes))) }
+    ensures end { OnOk result (IfSome (R.remaining input.old) (λ bytes.
+        R.remaining input.new ≡ Some [])) }
+    ensures bad_line { (bad : BadLine) → result ≡ Err (ListFault.BadLine bad)
+        → IfSome (R.remaining input.old) (λ bytes. IsFirstBadLineBy reading bytes bad) }
+    ensures left { (bad : BadLine) → result ≡ Err (ListFault.BadLine bad)
+        → IfSome (R.remaining input.old) (λ bytes.
+        LeavesPastBadLineBy reading bytes (R.remaining input.new) bad) }
+{
     let mut gathered = Gathered::new(alloc);
     let mut line = Vec::new(alloc);
-    gathered.read_first_line(input, &mut line)?;
-    gathered.read_on(input, &mut line)?;
+    gathered.read_first_line(reading, input, &mut line)?;
+    gathered.read_on(reading, input, &mut line)?;
     Ok(gathered.list())
 }
 
@@ -100,11 +128,28 @@ pub fn read_list_past_bad_lines<A: Allocator + Copy, R: BufRead>(
         IsListPast bytes reports (members list.v4) (members list.v6))) }
     ensures bad_line { (bad : BadLine) → result ≢ Err (ListFault.BadLine bad) }
 {
+    read_list_past_bad_lines_by(alloc, PLAIN, input, name, told)
+}
+
+/// Reads a list as `read_list_past_bad_lines` does, but each line in a given way (`parse_line_by`).
+pub fn read_list_past_bad_lines_by<A: Allocator + Copy, R: BufRead>(
+    alloc: A,
+    reading: Reading,
+    input: &mut R,
+    name: &str,
+    told: &mut Vec<u8, A>,
+) -> Result<AddressList<A>, ListFault>
+    ensures list { IfOk result (λ list. (reports : List BadLine)
+        × (told.new.items ≡ told.old.items ++ reports_text name.now reports)
+        × IfSome (R.remaining input.old) (λ bytes.
+        IsListPastBy reading bytes reports (members list.v4) (members list.v6))) }
+    ensures bad_line { (bad : BadLine) → result ≢ Err (ListFault.BadLine bad) }
+{
     let mut gathered = Gathered::new(alloc);
     let mut line = Vec::new(alloc);
-    tell(gathered.read_first_line(input, &mut line), name, told)?;
+    tell(gathered.read_first_line(reading, input, &mut line), name, told)?;
     for _ in 0..u64::MAX {
-        let is_done = tell(gathered.read_on(input, &mut line), name, told)?;
+        let is_done = tell(gathered.read_on(reading, input, &mut line), name, told)?;
         if is_done {
             return Ok(gathered.list());
         }

@@ -3,6 +3,7 @@
 mod address_set;
 mod bad_lines;
 mod blocks;
+mod forms;
 mod laws;
 mod line_forms;
 mod lines;

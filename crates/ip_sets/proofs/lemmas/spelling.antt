@@ -9,6 +9,7 @@ pub mod Lengths
 pub mod Lines
 pub mod Masks
 pub mod Means
+pub mod Numbers
 pub mod Octets
 pub mod OneMeaning
 pub mod Parts

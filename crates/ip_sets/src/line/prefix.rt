@@ -4,7 +4,7 @@ ghost use Rattle.std.specs.Prelude.{◌≡◌, ◌^◌, ◌<◌, ◌≤◌, Some
 ghost use Rattle.std.specs.Char.{is_ascii_digit};
 ghost use Rattle.std.specs.List.{list_all};
 ghost use Rattle.std.specs.Str.Parse.{IsNumeral, digits_value};
-ghost use Rattle.ip_sets.specs.LineParts.{Reads};
+ghost use Rattle.ip_sets.specs.LineParts.{Reads, number_below};
 
 use std::str;
 
@@ -35,6 +35,20 @@ pub(crate) fn digits(text: &[u8]) -> Option<u32>
         Ok(text) => text.parse().ok(),
         Err(_) => None,
     }
+}
+
+/// Returns the number that a text writes in decimal, if it is below a limit. It may begin with zeros.
+pub(crate) fn number_below(text: &[u8], limit: u32) -> Option<u32>
+    ensures { result ≡ number_below limit text.now }
+{
+    if !has_only_digits(text) {
+        return None;
+    }
+    let number = digits(text)?;
+    if number >= limit {
+        return None;
+    }
+    Some(number)
 }
 
 /// Returns whether each byte of a text is a digit.

@@ -59,6 +59,14 @@ pub enum Reason {
     Name,
     /// None of the others.
     Other,
+    /// It has fewer columns than the one that is its entry (`ListForm::Column`).
+    FewColumns,
+    /// It is neither `create` nor `add NAME ENTRY` (`ListForm::Ipset`).
+    NotSaved,
+    /// It has `nomatch`, `netmask` or `bitmask` (`ListForm::Ipset`).
+    Exception,
+    /// It has no range after a colon (`ListForm::P2p`).
+    NoRange,
 }
 
 impl fmt::Display for Reason {
@@ -77,6 +85,10 @@ impl fmt::Display for Reason {
             Reason::Above255 => write!(f, "a number above 255"),
             Reason::Name => write!(f, "a name, not an address"),
             Reason::Other => write!(f, "not an address, block or range"),
+            Reason::FewColumns => write!(f, "too few columns"),
+            Reason::NotSaved => write!(f, "not a line of ipset save"),
+            Reason::Exception => write!(f, "nomatch, netmask or bitmask"),
+            Reason::NoRange => write!(f, "no range after a colon"),
         }
     }
 }

@@ -2,35 +2,44 @@
 
 ghost use Rattle.std.specs.Prelude.{◌≡◌, Some};
 ghost use Rattle.ip_sets.specs.Excerpt.{excerpt, excerpt_of};
-ghost use Rattle.ip_sets.specs.Line.{content};
 ghost use Rattle.ip_sets.specs.List.{bad_line_text};
-ghost use Rattle.ip_sets.specs.Reason.{IsReason};
+ghost use Rattle.ip_sets.specs.Reading.{IsReasonBy, reported};
 
 use crate::line::content;
+use crate::line::form::{entry, lack};
+use crate::line::parts::trimmed;
+use crate::line::reading::Reading;
 use crate::line::reasons::{Reason, reason_of};
 use crate::list::excerpt::Excerpt;
 use std::fmt;
 
-/// A line that is neither blank nor an address, a block or a range. As text it is its number, the
-/// reason and its content, with colons between them.
+/// A line that is neither blank nor an address, a block or a range, or whose entry is neither. As
+/// text it is its number, the reason and what is bad of it, with colons between them.
 #[derive(Debug, Drop)]
 pub struct BadLine {
     /// The number of the line, counted from 1.
     pub number: u64,
     /// A reason why it is bad: `Other` only if no other holds.
     pub reason: Reason,
-    /// The start of what the line has before its comment.
+    /// The start of what its entry has before its comment, or of the line if it has no entry.
     pub text: Excerpt,
 }
 
 impl BadLine {
     /// Returns the report of a line.
-    pub(crate) fn new(number: u64, line: &[u8]) -> BadLine
+    pub(crate) fn new(reading: Reading, number: u64, line: &[u8]) -> BadLine
         ensures number { result.number ≡ number }
-        ensures reason { IsReason result.reason (content line.now) }
-        ensures text { excerpt_of result.text ≡ excerpt (content line.now) }
+        ensures reason { IsReasonBy reading result.reason line.now }
+        ensures text { excerpt_of result.text ≡ excerpt (reported reading line.now) }
     {
-        let text = content(line);
+        let Some(part) = entry(reading.form, line) else {
+            return BadLine {
+                number,
+                reason: lack(reading.form, line),
+                text: Excerpt::of(trimmed(line)),
+            };
+        };
+        let text = content(part);
         BadLine {
             number,
             reason: reason_of(text),

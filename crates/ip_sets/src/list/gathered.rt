@@ -28,11 +28,12 @@ ghost use Rattle.ip_sets.specs.Gathering.{
   gathered_v6,
   range_count,
 };
-ghost use Rattle.ip_sets.specs.Line.{IsLine, MeansV4, MeansV6, content};
 ghost use Rattle.ip_sets.specs.LineParts.{Reads};
-ghost use Rattle.ip_sets.specs.List.{AddsAddressesOf, IsReportOf, without_order_mark};
+ghost use Rattle.ip_sets.specs.List.{AddsAddressesOf, IsReportBy, without_order_mark};
+ghost use Rattle.ip_sets.specs.Reading.{IsLineBy, IsSameLine, MeansV4By, MeansV6By};
 
-use crate::line::{Line, first_line, parse_line};
+use crate::line::reading::Reading;
+use crate::line::{Line, first_line_by, parse_line_by};
 use crate::list::AddressList;
 use crate::list::bad_line::BadLine;
 use crate::list::fault::ListFault;
@@ -53,7 +54,8 @@ pub(crate) struct Gathered<A: Allocator> {
 impl<A: Allocator + Copy> Gathered<A> {
     /// Returns the state before the first line. Does not allocate.
     pub(crate) fn new(alloc: A) -> Self
-        ensures { (bytes : List ℕ) → AreGatheredBefore [] bytes bytes result }
+        ensures { (reading : Reading) (bytes : List ℕ)
+            → AreGatheredBefore reading [] bytes bytes result }
     {
         Gathered {
             v4: Vec::new(alloc),
@@ -82,24 +84,26 @@ impl<A: Allocator> Gathered<A> {
     /// before, and the buffer is empty.
     pub(crate) fn read_first_line<R: BufRead>(
         &mut self,
+        reading: Reading,
         input: &mut R,
         line: &mut Vec<u8, A>,
     ) -> Result<(), ListFault>
-        requires unread { (bytes : List ℕ) → AreGatheredBefore [] bytes bytes self.old }
+        requires unread { (bytes : List ℕ)
+            → AreGatheredBefore reading [] bytes bytes self.old }
         requires empty { line.old.items ≡ [] }
         ensures gathered { (bytes : List ℕ) → R.remaining input.old ≡ Some bytes
             → OnOk result
-            (AreGatheredTo [] (without_order_mark bytes) (R.remaining input.new) self.new) }
+            (AreGatheredTo reading [] (without_order_mark bytes) (R.remaining input.new) self.new) }
         ensures bad_line { (bytes : List ℕ) (bad : BadLine) → R.remaining input.old ≡ Some bytes
             → result ≡ Err (ListFault.BadLine bad)
-            → StopsPast [] bad (without_order_mark bytes) (R.remaining input.new) self.new }
+            → StopsPast reading [] bad (without_order_mark bytes) (R.remaining input.new) self.new }
     {
         input.read_until(b'\n', line)?;
         let first = without_order_mark(line);
         if first.is_empty() {
             return Ok(());
         }
-        self.add_line(parse_line(first), first)
+        self.add_line(reading, parse_line_by(reading, first), first)
     }
 
     /// Reads to the end of the input, or past the next bad line. The buffer is for a line that is
@@ -108,45 +112,50 @@ impl<A: Allocator> Gathered<A> {
     /// After `BadLine`, the next call reads on.
     pub(crate) fn read_on<R: BufRead>(
         &mut self,
+        reading: Reading,
         input: &mut R,
         line: &mut Vec<u8, A>,
     ) -> Result<(), ListFault>
         ensures gathered { (bytes : List ℕ) (reports : List BadLine)
-            → AreGatheredTo reports bytes (R.remaining input.old) self.old
-            → OnOk result (AreGatheredTo reports bytes (Some []) self.new
+            → AreGatheredTo reading reports bytes (R.remaining input.old) self.old
+            → OnOk result (AreGatheredTo reading reports bytes (Some []) self.new
             × (R.remaining input.new ≡ Some [])) }
         ensures bad_line { (bytes : List ℕ) (reports : List BadLine) (bad : BadLine)
-            → AreGatheredTo reports bytes (R.remaining input.old) self.old
+            → AreGatheredTo reading reports bytes (R.remaining input.old) self.old
             → result ≡ Err (ListFault.BadLine bad)
-            → StopsPast reports bad bytes (R.remaining input.new) self.new }
+            → StopsPast reading reports bad bytes (R.remaining input.new) self.new }
     {
         for _ in 0..u64::MAX {
-            self.add_buffered(input)?;
+            self.add_buffered(reading, input)?;
             // What is left of the buffer is the start of a line, which ends in another part of the
             // input.
             line.clear();
             if input.read_until(b'\n', line)? == 0 {
                 return Ok(());
             }
-            self.add_line(parse_line(line), line)?;
+            self.add_line(reading, parse_line_by(reading, line), line)?;
         }
         Err(too_many_lines())
     }
 
     // Consumes every complete line in the buffer, up to and including the first bad one. The rest
     // stays in the buffer.
-    fn add_buffered<R: BufRead>(&mut self, input: &mut R) -> Result<(), ListFault>
+    fn add_buffered<R: BufRead>(
+        &mut self,
+        reading: Reading,
+        input: &mut R,
+    ) -> Result<(), ListFault>
         ensures gathered { (bytes : List ℕ) (reports : List BadLine)
-            → AreGatheredTo reports bytes (R.remaining input.old) self.old
-            → OnOk result (AreGatheredTo reports bytes (R.remaining input.new) self.new) }
+            → AreGatheredTo reading reports bytes (R.remaining input.old) self.old
+            → OnOk result (AreGatheredTo reading reports bytes (R.remaining input.new) self.new) }
         ensures bad_line { (bytes : List ℕ) (reports : List BadLine) (bad : BadLine)
-            → AreGatheredTo reports bytes (R.remaining input.old) self.old
+            → AreGatheredTo reading reports bytes (R.remaining input.old) self.old
             → result ≡ Err (ListFault.BadLine bad)
-            → StopsPast reports bad bytes (R.remaining input.new) self.new }
+            → StopsPast reading reports bad bytes (R.remaining input.new) self.new }
     {
         match input.fill_buf() {
             Ok(bytes) => {
-                let (count, outcome) = self.add_lines(bytes);
+                let (count, outcome) = self.add_lines(reading, bytes);
                 input.consume(count);
                 outcome
             }
@@ -162,21 +171,26 @@ impl<A: Allocator> Gathered<A> {
 
     // Adds the addresses that a line means. Returns `BadLine` if the line is bad.
     #[inline(always)]
-    fn add_line(&mut self, meaning: Option<Line>, line: &[u8]) -> Result<(), ListFault>
+    fn add_line(
+        &mut self,
+        reading: Reading,
+        meaning: Option<Line>,
+        line: &[u8],
+    ) -> Result<(), ListFault>
         ensures gathered { (same : List ℕ) (before : List (List ℕ)) (reports : List BadLine)
-            → Reads meaning (IsLine line.now) → content same ≡ content line.now
-            → AreGathered reports before self.old
-            → OnOk result (AreGathered reports (before ++ same ∷ []) self.new) }
+            → Reads meaning (IsLineBy reading line.now) → IsSameLine same line.now
+            → AreGathered reading reports before self.old
+            → OnOk result (AreGathered reading reports (before ++ same ∷ []) self.new) }
         ensures bad_line { (same : List ℕ) (before : List (List ℕ)) (reports : List BadLine)
-            (bad : BadLine) → Reads meaning (IsLine line.now) → content same ≡ content line.now
-            → AreGathered reports before self.old → result ≡ Err (ListFault.BadLine bad)
-            → IsReportOf bad (length before + 1) same
-            × AreGathered (reports ++ bad ∷ []) (before ++ same ∷ []) self.new }
+            (bad : BadLine) → Reads meaning (IsLineBy reading line.now) → IsSameLine same line.now
+            → AreGathered reading reports before self.old → result ≡ Err (ListFault.BadLine bad)
+            → IsReportBy reading bad (length before + 1) same
+            × AreGathered reading (reports ++ bad ∷ []) (before ++ same ∷ []) self.new }
     {
         let number = self.number;
         self.number = next_number(number)?;
         let Some(meaning) = meaning else {
-            return Err(ListFault::BadLine(BadLine::new(number, line)));
+            return Err(ListFault::BadLine(BadLine::new(reading, number, line)));
         };
         self.add(meaning)?;
         Ok(())
@@ -184,22 +198,22 @@ impl<A: Allocator> Gathered<A> {
 
     // Consumes every complete line of the bytes, up to and including the first bad one. Returns the
     // number of bytes that it consumed.
-    fn add_lines(&mut self, bytes: &[u8]) -> (usize, Result<(), ListFault>)
+    fn add_lines(&mut self, reading: Reading, bytes: &[u8]) -> (usize, Result<(), ListFault>)
         ensures within { result.0 ≤ length bytes.now }
         ensures gathered { (all more : List ℕ) (reports : List BadLine)
-            → AreGatheredBefore reports all (bytes.now ++ more) self.old
+            → AreGatheredBefore reading reports all (bytes.now ++ more) self.old
             → OnOk result.1
-            (AreGatheredBefore reports all (drop result.0 bytes.now ++ more) self.new) }
+            (AreGatheredBefore reading reports all (drop result.0 bytes.now ++ more) self.new) }
         ensures bad_line { (all more : List ℕ) (reports : List BadLine) (bad : BadLine)
-            → AreGatheredBefore reports all (bytes.now ++ more) self.old
+            → AreGatheredBefore reading reports all (bytes.now ++ more) self.old
             → result.1 ≡ Err (ListFault.BadLine bad)
-            → AreGatheredPast reports bad all (drop result.0 bytes.now ++ more) self.new }
+            → AreGatheredPast reading reports bad all (drop result.0 bytes.now ++ more) self.new }
     {
         let mut rest = bytes;
-        while let Some(first) = first_line(rest) {
+        while let Some(first) = first_line_by(reading, rest) {
             let line = &rest[..rest.len() - first.rest.len() - 1];
             rest = first.rest;
-            if let Err(fault) = self.add_line(first.meaning, line) {
+            if let Err(fault) = self.add_line(reading, first.meaning, line) {
                 return (bytes.len() - rest.len(), Err(fault));
             }
         }
@@ -209,10 +223,12 @@ impl<A: Allocator> Gathered<A> {
     // Adds the range that a line means, if it means one.
     #[inline(always)]
     fn add(&mut self, meaning: Line) -> Result<(), AllocError>
-        ensures v4 { (line : List ℕ) → IsLine line meaning → OnOk result
-            (AddsAddressesOf MeansV4 line (gathered_v4 self.old) (gathered_v4 self.new)) }
-        ensures v6 { (line : List ℕ) → IsLine line meaning → OnOk result
-            (AddsAddressesOf MeansV6 line (gathered_v6 self.old) (gathered_v6 self.new)) }
+        ensures v4 { (reading : Reading) (line : List ℕ) → IsLineBy reading line meaning
+            → OnOk result (AddsAddressesOf (MeansV4By reading) line (gathered_v4 self.old)
+            (gathered_v4 self.new)) }
+        ensures v6 { (reading : Reading) (line : List ℕ) → IsLineBy reading line meaning
+            → OnOk result (AddsAddressesOf (MeansV6By reading) line (gathered_v6 self.old)
+            (gathered_v6 self.new)) }
         ensures range_count { OnOk result (range_count self.new ≤ range_count self.old + 1) }
         ensures number { self.new.number ≡ self.old.number }
     {

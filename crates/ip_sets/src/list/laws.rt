@@ -3,8 +3,11 @@
 ghost use Rattle.std.specs.Prelude.{◌≡◌, ◌↔◌, ℕ, ◌++◌, IsFalse, List};
 ghost use Rattle.range_set_blaze.specs.Selection.{Selection};
 ghost use Rattle.ip_sets.specs.declared.list.bad_line.BadLine.{BadLine};
+ghost use Rattle.ip_sets.specs.declared.line.reading.Reading.{Reading};
 ghost use Rattle.ip_sets.specs.List.{
   IsFirstBadLine,
+  IsFirstBadLineBy,
+  IsListBy,
   IsListOf,
   contents,
   has_order_mark,
@@ -22,6 +25,21 @@ pub fn list_selects_one()
         → IsFirstBadLine bytes other → bad.number ≡ other.number }
     ensures not_both { (bytes : List ℕ) (v4 v6 : Selection) (bad : BadLine)
         → IsListOf bytes v4 v6 → ¬ IsFirstBadLine bytes bad }
+{}
+
+/// So does a list that is read in a given way.
+pub fn list_by_selects_one()
+    ensures v4 { (reading : Reading) (bytes : List ℕ) (v4 v6 other4 other6 : Selection)
+        (number : ℕ) → IsListBy reading bytes v4 v6 → IsListBy reading bytes other4 other6
+        → v4 number ≡ other4 number }
+    ensures v6 { (reading : Reading) (bytes : List ℕ) (v4 v6 other4 other6 : Selection)
+        (number : ℕ) → IsListBy reading bytes v4 v6 → IsListBy reading bytes other4 other6
+        → v6 number ≡ other6 number }
+    ensures bad_line { (reading : Reading) (bytes : List ℕ) (bad other : BadLine)
+        → IsFirstBadLineBy reading bytes bad → IsFirstBadLineBy reading bytes other
+        → bad.number ≡ other.number }
+    ensures not_both { (reading : Reading) (bytes : List ℕ) (v4 v6 : Selection) (bad : BadLine)
+        → IsListBy reading bytes v4 v6 → ¬ IsFirstBadLineBy reading bytes bad }
 {}
 
 /// Lists with the same contents select the same addresses: comments, blank lines, and the white

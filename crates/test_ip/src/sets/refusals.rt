@@ -7,8 +7,9 @@ use crate::sets::operations::{ROWS, Row, TEXTS, is_selected};
 use crate::sets::selections::selected;
 use ip_sets::selection::{v4_ranges, v6_ranges};
 use ip_sets::{
-    AddressList, AddressSet, IntoBlocks, Line, ListFault, blocks_of, combine, parse_line,
-    read_list, read_list_past_bad_lines, set_blocks, v4_block_text, v4_range_text, v4_text,
+    AddressList, AddressSet, IntoBlocks, Line, ListFault, ListForm, blocks_of, combine, parse_line,
+    parse_line_by, read_list, read_list_by, read_list_past_bad_lines, read_list_past_bad_lines_by,
+    set_blocks, v4_block_text, v4_range_text, v4_text,
     v6_block_text, v6_range_text, v6_text,
 };
 use range_set_blaze::{RangeSetBlaze, UIntPlusOne};
@@ -23,6 +24,8 @@ type Heap = Counting<Global>;
 #[derive(Clone, Copy)]
 enum Reading {
     ParseLine,
+    ParseLineBy,
+    Named,
     Ranges,
     RangesLen,
     Len,
@@ -45,6 +48,8 @@ enum Call {
     ReadList,
     ReadListPastBadLines,
     ReadMarkedList,
+    ReadListBy,
+    ReadListPastBadLinesBy,
     V4Ranges,
     V6Ranges,
     /// The operation of a row on the three lists.
@@ -62,7 +67,7 @@ impl Call {
 }
 
 /// All calls except those of the rows.
-static CALLS: [Call; 20] = [
+static CALLS: [Call; 24] = [
     Call::V4Text,
     Call::V4BlockText,
     Call::V4RangeText,
@@ -75,9 +80,13 @@ static CALLS: [Call; 20] = [
     Call::ReadList,
     Call::ReadListPastBadLines,
     Call::ReadMarkedList,
+    Call::ReadListBy,
+    Call::ReadListPastBadLinesBy,
     Call::V4Ranges,
     Call::V6Ranges,
     Call::Read(Reading::ParseLine),
+    Call::Read(Reading::ParseLineBy),
+    Call::Read(Reading::Named),
     Call::Read(Reading::Ranges),
     Call::Read(Reading::RangesLen),
     Call::Read(Reading::Len),
@@ -128,6 +137,33 @@ fn reads_marked_right(heap: &Heap) -> Result<bool, AllocError> {
     }
 }
 
+/// How a list that `ipset save` wrote is read, with IPv4-mapped addresses as IPv4.
+const SAVED: ip_sets::Reading = ip_sets::Reading {
+    form: ListForm::Ipset,
+    map_v4: true,
+};
+
+/// Returns whether a list in another form is read right.
+fn reads_by_right(heap: &Heap) -> Result<bool, AllocError> {
+    let mut input: &[u8] = b"create a hash:ip\nadd a 0.0.0.4\nadd a ::ffff:0:6\nadd a ::1\n";
+    match read_list_by(heap, SAVED, &mut input) {
+        Ok(list) => Ok(list.v4.len() == 2 && list.v6.contains(1)),
+        Err(ListFault::NoMemory) => Err(AllocError),
+        Err(_) => Ok(false),
+    }
+}
+
+/// Returns whether such a list is read right past its bad lines.
+fn reads_past_by_right(heap: &Heap) -> Result<bool, AllocError> {
+    let mut told = Vec::new(heap);
+    let mut input: &[u8] = b"add a 0.0.0.4\nx\nadd a 0.0.0.5\nadd a 0.0.0.0/8 nomatch\n";
+    match read_list_past_bad_lines_by(heap, SAVED, &mut input, "it", &mut told) {
+        Ok(list) => Ok(list.v4.len() == 2 && told.len() == 93),
+        Err(ListFault::NoMemory) => Err(AllocError),
+        Err(_) => Ok(false),
+    }
+}
+
 /// Returns whether a set is made of the IPv4 addresses of the first list, which are 1 to 5.
 fn makes_right<'a>(heap: &'a Heap, lists: &[AddressList<&'a Heap>]) -> Result<bool, AllocError> {
     let Some(list) = lists.first() else {
@@ -153,6 +189,8 @@ fn is_read<'a>(lists: &[AddressList<&'a Heap>], reading: Reading) -> bool {
     };
     match reading {
         Reading::ParseLine => matches!(parse_line(b"::1 # one"), Some(Line::V6(_))),
+        Reading::ParseLineBy => matches!(parse_line_by(SAVED, b"add a ::ffff:0:4"), Some(Line::V4(_))),
+        Reading::Named => ListForm::named("column=2") == Some(ListForm::Column(1)),
         Reading::Ranges => are(&list.v4, &[(1, 5)]) && are(&list.v6, &[(1, 5)]),
         Reading::RangesLen => list.v4.ranges_len() == 1 && list.v6.ranges_len() == 1,
         Reading::Len => list.v4.len() == 5 && list.v6.len() == UIntPlusOne::UInt(5),
@@ -183,6 +221,8 @@ fn is_right<'a>(
         Call::ReadList => reads_right(heap)?,
         Call::ReadListPastBadLines => reads_past_right(heap)?,
         Call::ReadMarkedList => reads_marked_right(heap)?,
+        Call::ReadListBy => reads_by_right(heap)?,
+        Call::ReadListPastBadLinesBy => reads_past_by_right(heap)?,
         Call::V4Ranges => v4_ranges(heap, lists)?.len() == 3,
         Call::V6Ranges => v6_ranges(heap, lists)?.len() == 3,
         Call::Combine(row) => {

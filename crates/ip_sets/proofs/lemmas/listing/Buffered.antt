@@ -10,10 +10,13 @@ use Rattle.std.specs.List.{All}
 use Rattle.std.specs.Prelude.{IfSome}
 use Rattle.ip_sets.specs.declared.list.gathered.Gathered.{Gathered}
 use Rattle.ip_sets.specs.declared.list.bad_line.BadLine.{BadLine}
+use Rattle.ip_sets.specs.declared.line.reading.Reading.{Reading}
 use Rattle.ip_sets.specs.Gathering.{AreGathered, AreGatheredBefore, AreGatheredPast}
 use Rattle.ip_sets.specs.Line.{content}
-use Rattle.ip_sets.specs.List.{IsReportOf}
-use Rattle.ip_sets.proofs.lemmas.listing.LineEnds.{content_one}
+use Rattle.ip_sets.specs.LineParts.{trimmed}
+use Rattle.ip_sets.specs.List.{IsReportBy}
+use Rattle.ip_sets.specs.Reading.{IsSameLine}
+use Rattle.ip_sets.proofs.lemmas.listing.LineEnds.{same_one}
 use Rattle.ip_sets.proofs.lemmas.listing.Reading.{gathered_next, gathered_past}
 
 -- ---- the bytes that a reader shows
@@ -88,10 +91,10 @@ drop_on bytes rest line after within is parts =
     ∙ drop-drop (length line + 1) (length bytes - length rest) bytes
     ∙ ap (λ n. drop n bytes) place
 
-module _ {A : Type 0} (reports : List BadLine) (all rest line after more : List ℕ)
+module _ {A : Type 0} (reading : Reading) (reports : List BadLine) (all rest line after more : List ℕ)
     (old : Gathered A) (parts : rest ≡ line ++ 10 ∷ after)
     (one : All (λ byte. eqb byte 10 ≡ false) line)
-    (has : AreGatheredBefore reports all (rest ++ more) old) where
+    (has : AreGatheredBefore reading reports all (rest ++ more) old) where
   -- The bytes begin with the line.
   known : rest ++ more ≡ (line ++ 10 ∷ after) ++ more
   known = ap (λ bytes. bytes ++ more) parts
@@ -107,23 +110,26 @@ module _ {A : Type 0} (reports : List BadLine) (all rest line after more : List 
   some : 0 < length (take_through 10 (rest ++ more))
   some = omega (arith, ap length split.0, length-append line (10 ∷ []))
 
-  -- The content of the line does not depend on its line feed.
-  same : content line ≡ content (take_through 10 (rest ++ more))
-  same = sym (content_one 10 refl line) ∙ sym (ap content split.0)
+  -- The line is the same without its line feed.
+  same : IsSameLine (take_through 10 (rest ++ more)) line
+  same = record {
+    same_content = ap content split.0 ∙ (same_one 10 refl line).same_content;
+    same_text = ap trimmed split.0 ∙ (same_one 10 refl line).same_text;
+  }
 
   -- The line up to the line feed is gathered.
   pub found_next : (new : Gathered A)
-      → ((before : List (List ℕ)) (other : List ℕ) → content other ≡ content line
-      → AreGathered reports before old → AreGathered reports (before ++ other ∷ []) new)
-      → AreGatheredBefore reports all (after ++ more) new
-  found_next new adds = subst (λ left. AreGatheredBefore reports all left new) split.1
-      (gathered_next reports all (rest ++ more) line old has some same new adds)
+      → ((before : List (List ℕ)) (other : List ℕ) → IsSameLine other line
+      → AreGathered reading reports before old → AreGathered reading reports (before ++ other ∷ []) new)
+      → AreGatheredBefore reading reports all (after ++ more) new
+  found_next new adds = subst (λ left. AreGatheredBefore reading reports all left new) split.1
+      (gathered_next reading reports all (rest ++ more) line old has some same new adds)
 
   -- That line has no meaning.
   pub found_bad : (bad : BadLine) (new : Gathered A)
-      → ((before : List (List ℕ)) (other : List ℕ) → content other ≡ content line
-      → AreGathered reports before old → IsReportOf bad (length before + 1) other
-      × AreGathered (reports ++ bad ∷ []) (before ++ other ∷ []) new)
-      → AreGatheredPast reports bad all (after ++ more) new
-  found_bad bad new adds = subst (λ left. AreGatheredPast reports bad all left new) split.1
-      (gathered_past reports all (rest ++ more) line old has some same bad new adds)
+      → ((before : List (List ℕ)) (other : List ℕ) → IsSameLine other line
+      → AreGathered reading reports before old → IsReportBy reading bad (length before + 1) other
+      × AreGathered reading (reports ++ bad ∷ []) (before ++ other ∷ []) new)
+      → AreGatheredPast reading reports bad all (after ++ more) new
+  found_bad bad new adds = subst (λ left. AreGatheredPast reading reports bad all left new) split.1
+      (gathered_past reading reports all (rest ++ more) line old has some same bad new adds)

@@ -6,7 +6,9 @@ use Rattle.std.specs.Io.BufRead.{drop_through, take_through}
 use Rattle.std.specs.List.{onto_first, slice_split}
 use Rattle.std.specs.Str.Lines.{lines, lines_of_parts, strip_carriage_return}
 use Rattle.ip_sets.specs.Line.{content}
-use Rattle.ip_sets.proofs.lemmas.listing.LineEnds.{content_one, content_without_return}
+use Rattle.ip_sets.specs.LineParts.{trimmed}
+use Rattle.ip_sets.specs.Reading.{IsSameLine}
+use Rattle.ip_sets.proofs.lemmas.listing.LineEnds.{same_one, same_without_return}
 
 -- The parts between line feeds.
 abbrev parts : List ℕ → List (List ℕ)
@@ -61,19 +63,19 @@ then_others front (part ∷ others) some = refl
 -- it.
 pub first_line : (bytes : List ℕ) → 0 < length (take_through 10 bytes)
     → (line : List ℕ) × (lines bytes ≡ line ∷ lines (drop_through 10 bytes))
-    × (content line ≡ content (take_through 10 bytes))
+    × IsSameLine line (take_through 10 bytes)
 first_line bytes some = by (first_cut bytes)
   where
     by : IsOnePart bytes ⊎ ((front : List ℕ) × IsFront bytes front)
         → (line : List ℕ) × (lines bytes ≡ line ∷ lines (drop_through 10 bytes))
-        × (content line ≡ content (take_through 10 bytes))
+        × IsSameLine line (take_through 10 bytes)
     by (inl h) =
         let size : 0 < length bytes = omega (arith, some, ap length h.all) in
         let one : lines_of_parts (bytes ∷ []) ≡ bytes ∷ [] =
         rw (ne_eqb (length bytes) 0 (λ none. absurd (omega (arith, none, size)))) refl in (
           bytes,
           ap lines_of_parts h.one ∙ one ∙ sym (ap (λ rest. bytes ∷ lines rest) h.none),
-          sym (ap content h.all),
+          record { same_content = sym (ap content h.all); same_text = sym (ap trimmed h.all) },
         )
     by (inr h) =
         let rest = drop_through 10 bytes in (
@@ -81,6 +83,10 @@ first_line bytes some = by (first_cut bytes)
           ap lines_of_parts h.1.others
               ∙ then_others h.0 (parts rest)
               (omega (arith, length-slice_split (λ byte. eqb byte 10) rest)),
-          content_without_return h.0 ∙ sym (content_one 10 refl h.0)
-              ∙ sym (ap content h.1.through),
+          record {
+            same_content = (same_without_return h.0).same_content
+                ∙ sym (same_one 10 refl h.0).same_content ∙ sym (ap content h.1.through);
+            same_text = (same_without_return h.0).same_text
+                ∙ sym (same_one 10 refl h.0).same_text ∙ sym (ap trimmed h.1.through);
+          },
         )

@@ -8,13 +8,16 @@ use Rattle.std.specs.Str.Lines.{lines}
 use Rattle.range_set_blaze.specs.Runs.{Interval, members}
 use Rattle.range_set_blaze.specs.Selection.{Selection}
 use Rattle.range_set_blaze.specs.Set.{IsSetOf}
+use Rattle.ip_sets.specs.declared.line.reading.Reading.{Reading}
 use Rattle.ip_sets.specs.declared.list.bad_line.BadLine.{BadLine}
 use Rattle.ip_sets.specs.declared.list.fault.ListFault.{ListFault}
 use Rattle.ip_sets.specs.declared.list.fault.ListFault.TheVariants.{BadLine as BadLineFault}
 use Rattle.ip_sets.specs.declared.list.gathered.Gathered.{Gathered}
 use Rattle.ip_sets.specs.Gathering.{AreGathered, AreGatheredBefore, AreGatheredTo, StopsPast, gathered_v4, gathered_v6, range_count}
-use Rattle.ip_sets.specs.Line.{MeansV4, MeansV6, content}
-use Rattle.ip_sets.specs.List.{AreAddressesOf, IsListOf, IsListPast, IsReportOf, LeavesPastBadLine, list_lines, report_line, reports_text, without_order_mark}
+use Rattle.ip_sets.specs.Line.{content}
+use Rattle.ip_sets.specs.LineParts.{trimmed}
+use Rattle.ip_sets.specs.List.{AreAddressesOf, IsListBy, IsListPastBy, IsReportBy, LeavesPastBadLineBy, list_lines, report_line, reports_text, without_order_mark}
+use Rattle.ip_sets.specs.Reading.{IsSameLine, MeansV4By, MeansV6By}
 use Rattle.ip_sets.proofs.lemmas.listing.Reading.{gathered_next, gathered_past}
 use Rattle.ip_sets.proofs.lemmas.listing.Reports.{all_good, told_more}
 
@@ -64,51 +67,55 @@ same_addresses Means list old new same are number = (
   (λ any. same number ∙ (are number).1 any),
 )
 
-module _ {A : Type 0} where
+-- Equal lines are the same.
+pub same_read : {line other : List ℕ} → line ≡ other → IsSameLine other line
+same_read is = record { same_content = sym (ap content is); same_text = sym (ap trimmed is) }
+
+module _ {A : Type 0} (reading : Reading) where
   module _ (reports : List BadLine) (all : List ℕ) (before after : Option (List ℕ))
-      (buffer line : List ℕ) (old : Gathered A) (has : AreGatheredTo reports all before old)
+      (buffer line : List ℕ) (old : Gathered A) (has : AreGatheredTo reading reports all before old)
       (empty : buffer ≡ []) (bytes : IfSome before (λ known. line ≡ buffer ++ take_through 10 known))
       (drops : DropsThrough before after 10) where
     -- The line that was read is gathered.
     pub read_next : 0 < length line → (new : Gathered A)
-        → ((before : List (List ℕ)) (other : List ℕ) → content other ≡ content line
-        → AreGathered reports before old → AreGathered reports (before ++ other ∷ []) new)
-        → AreGatheredTo reports all after new
+        → ((before : List (List ℕ)) (other : List ℕ) → IsSameLine other line
+        → AreGathered reading reports before old → AreGathered reading reports (before ++ other ∷ []) new)
+        → AreGatheredTo reading reports all after new
     read_next some new adds =
         let read = read_line before after buffer line has.0 has.1 empty bytes drops in (
           drop_through 10 has.0,
           read.1,
-          gathered_next reports all has.0 line old has.2 (omega (arith, some, ap length read.0))
-              (ap content read.0) new adds,
+          gathered_next reading reports all has.0 line old has.2 (omega (arith, some, ap length read.0))
+              (same_read read.0) new adds,
         )
 
     -- It has no meaning.
     pub read_bad : 0 < length line → (bad : BadLine) (new : Gathered A)
-        → ((before : List (List ℕ)) (other : List ℕ) → content other ≡ content line
-        → AreGathered reports before old → IsReportOf bad (length before + 1) other
-        × AreGathered (reports ++ bad ∷ []) (before ++ other ∷ []) new)
-        → StopsPast reports bad all after new
+        → ((before : List (List ℕ)) (other : List ℕ) → IsSameLine other line
+        → AreGathered reading reports before old → IsReportBy reading bad (length before + 1) other
+        × AreGathered reading (reports ++ bad ∷ []) (before ++ other ∷ []) new)
+        → StopsPast reading reports bad all after new
     read_bad some bad new adds =
         let read = read_line before after buffer line has.0 has.1 empty bytes drops in (
           drop_through 10 has.0,
           read.1,
-          gathered_past reports all has.0 line old has.2 (omega (arith, some, ap length read.0))
-              (ap content read.0) bad new adds,
+          gathered_past reading reports all has.0 line old has.2 (omega (arith, some, ap length read.0))
+              (same_read read.0) bad new adds,
         )
 
     -- At the end of the input nothing is left.
-    pub read_none : IsAtEnd before → AreGatheredTo reports all (Some []) old × (after ≡ Some [])
+    pub read_none : IsAtEnd before → AreGatheredTo reading reports all (Some []) old × (after ≡ Some [])
     read_none end =
         let read = read_line before after buffer line has.0 has.1 empty bytes drops in
         let none = none_left before has.0 has.1 end in (
-          ([], refl, subst (λ rest. AreGatheredBefore reports all rest old) none has.2),
+          ([], refl, subst (λ rest. AreGatheredBefore reading reports all rest old) none has.2),
           read.1 ∙ ap (λ left. Some (drop_through 10 left)) none,
         )
 
   -- A line that has no meaning was read past.
   pub read_past : (reports : List BadLine) (bad : BadLine) (all : List ℕ)
-      (left : Option (List ℕ)) (gathered : Gathered A) → StopsPast reports bad all left gathered
-      → AreGatheredTo (reports ++ bad ∷ []) all left gathered
+      (left : Option (List ℕ)) (gathered : Gathered A) → StopsPast reading reports bad all left gathered
+      → AreGatheredTo reading (reports ++ bad ∷ []) all left gathered
   read_past reports bad all left gathered has = (
     has.0,
     has.1,
@@ -127,13 +134,13 @@ module _ {A : Type 0} where
       → (IsFalse is_done → (bad : BadLine) × (outcome ≡ Err (BadLineFault bad))
       × (new ≡ old ++ report_line name bad))
       → ((bytes : List ℕ) → before ≡ Some bytes
-      → OnOk outcome (AreGatheredTo [] (without_order_mark bytes) after gathered))
+      → OnOk outcome (AreGatheredTo reading [] (without_order_mark bytes) after gathered))
       → ((bytes : List ℕ) (bad : BadLine) → before ≡ Some bytes
       → outcome ≡ Err (BadLineFault bad)
-      → StopsPast [] bad (without_order_mark bytes) after gathered)
+      → StopsPast reading [] bad (without_order_mark bytes) after gathered)
       → (reports : List BadLine) × (new ≡ old ++ reports_text name reports)
       × ((bytes : List ℕ) → before ≡ Some bytes
-      → AreGatheredTo reports (without_order_mark bytes) after gathered)
+      → AreGatheredTo reading reports (without_order_mark bytes) after gathered)
   told_first (Ok value) true name old new before after gathered none some good bad = (
     [],
     (none refl).1 ∙ sym (append-nil old),
@@ -151,8 +158,8 @@ module _ {A : Type 0} where
 
   -- The first of these is the first bad line.
   pub past_first : (bad : BadLine) (bytes : List ℕ) (left : Option (List ℕ))
-      (gathered : Gathered A) → StopsPast [] bad (without_order_mark bytes) left gathered
-      → LeavesPastBadLine bytes left bad
+      (gathered : Gathered A) → StopsPast reading [] bad (without_order_mark bytes) left gathered
+      → LeavesPastBadLineBy reading bytes left bad
   past_first bad bytes left gathered has = (
     has.0,
     has.1,
@@ -163,14 +170,14 @@ module _ {A : Type 0} where
         after = lines has.0;
         parts = has.2.parts;
         report = has.2.report;
-        first = all_good 1 has.2.before has.2.earlier;
+        first = all_good reading 1 has.2.before has.2.earlier;
       },
       refl,
     ),
   )
 
   module _ (reports : List BadLine) (bytes : List ℕ) (gathered : Gathered A)
-      (has : AreGatheredTo reports (without_order_mark bytes) (Some []) gathered)
+      (has : AreGatheredTo reading reports (without_order_mark bytes) (Some []) gathered)
       (v4 v6 : List Interval) where
     -- At the end of the input, all lines were gathered.
     every : list_lines bytes ≡ has.2.before
@@ -181,12 +188,12 @@ module _ {A : Type 0} where
     -- At the end of the input, the sets of what is gathered are those of the list past its bad
     -- lines.
     pub all_read_past : IsSetOf v4 (gathered_v4 gathered) → IsSetOf v6 (gathered_v6 gathered)
-        → IsListPast bytes reports (members v4) (members v6)
+        → IsListPastBy reading bytes reports (members v4) (members v6)
     all_read_past is4 is6 = record {
       reported = rw every has.2.so_far.reported;
-      v4_addresses = rw every (same_addresses MeansV4 has.2.before (gathered_v4 gathered)
+      v4_addresses = rw every (same_addresses (MeansV4By reading) has.2.before (gathered_v4 gathered)
           (members v4) is4 has.2.so_far.v4_addresses);
-      v6_addresses = rw every (same_addresses MeansV6 has.2.before (gathered_v6 gathered)
+      v6_addresses = rw every (same_addresses (MeansV6By reading) has.2.before (gathered_v6 gathered)
           (members v6) is6 has.2.so_far.v6_addresses);
     }
 
@@ -196,10 +203,10 @@ module _ {A : Type 0} where
     few_read few = omega (arith, few, has.2.so_far.few, ap length every)
 
 -- A list past no bad lines is a list.
-pub good_list : (bytes : List ℕ) (v4 v6 : Selection) → IsListPast bytes [] v4 v6
-    → IsListOf bytes v4 v6
-good_list bytes v4 v6 past = record {
-  good = all_good 1 (list_lines bytes) past.reported;
+pub good_list : (reading : Reading) (bytes : List ℕ) (v4 v6 : Selection) → IsListPastBy reading bytes [] v4 v6
+    → IsListBy reading bytes v4 v6
+good_list reading bytes v4 v6 past = record {
+  good = all_good reading 1 (list_lines bytes) past.reported;
   v4_addresses = past.v4_addresses;
   v6_addresses = past.v6_addresses;
 }

@@ -7,6 +7,7 @@ use Rattle.std.specs.List.{before_first, position_or_len, prefix_len, suffix_len
 use Rattle.std.specs.Str.Lines.{strip_carriage_return}
 use Rattle.ip_sets.specs.Line.{begins_comment, content}
 use Rattle.ip_sets.specs.LineParts.{trimmed, without_last_blanks}
+use Rattle.ip_sets.specs.Reading.{IsSameLine}
 use Rattle.ip_sets.proofs.lemmas.spelling.Around.{blank_no_comment}
 
 -- One more than a number is its successor.
@@ -80,16 +81,19 @@ module _ (byte : ℕ) (blank : is_ascii_whitespace byte ≡ true) where
       by (inl same) = ap trimmed same
       by (inr more) = ap trimmed more ∙ trimmed_one (before_first begins_comment line)
 
--- A line without its carriage return has the same content.
-pub content_without_return : (line : List ℕ)
-    → content (strip_carriage_return line) ≡ content line
-content_without_return [] = refl
-content_without_return (byte ∷ bytes) =
+  -- It is the same otherwise.
+  pub same_one : (line : List ℕ) → IsSameLine (line ++ byte ∷ []) line
+  same_one line = record { same_content = content_one line; same_text = trimmed_one line }
+
+-- A line without its carriage return is the same otherwise.
+pub same_without_return : (line : List ℕ) → IsSameLine (strip_carriage_return line) line
+same_without_return [] = record { same_content = refl; same_text = refl }
+same_without_return (byte ∷ bytes) =
     by (byte ∷ bytes) (omega arith) (eqb (get_or (byte ∷ bytes) (length (byte ∷ bytes) - 1) 0) 13) refl
   where
     by : (line : List ℕ) → 0 < length line → (returns : Bool)
         → eqb (get_or line (length line - 1) 0) 13 ≡ returns
-        → content (strip_carriage_return line) ≡ content line
+        → IsSameLine (strip_carriage_return line) line
     by line some true is =
         let last = eqb-true (get_or line (length line - 1) 0) 13 is in
         let front = take (length line - 1) line in
@@ -97,5 +101,14 @@ content_without_return (byte ∷ bytes) =
         sym (take_all (length line - 1 + 1) line (omega arith))
         ∙ take_more line (length line - 1) 0 (omega arith)
         ∙ ap (λ b. front ++ b ∷ []) last in
-        rw is (sym (ap content whole ∙ content_one 13 refl front))
-    by line some false is = rw is refl
+        let same = same_one 13 refl front in
+        rw is (record {
+          same_content = sym (ap content whole ∙ same.same_content);
+          same_text = sym (ap trimmed whole ∙ same.same_text);
+        })
+    by line some false is = rw is (record { same_content = refl; same_text = refl })
+
+-- So it has the same content.
+pub content_without_return : (line : List ℕ)
+    → content (strip_carriage_return line) ≡ content line
+content_without_return line = (same_without_return line).same_content

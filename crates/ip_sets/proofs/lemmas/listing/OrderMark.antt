@@ -6,12 +6,14 @@ use Rattle.std.specs.Io.BufRead.{DropsThrough, drop_through, take_through}
 use Rattle.std.specs.Prelude.{IfSome, OnOk}
 use Rattle.std.specs.Str.Lines.{lines}
 use Rattle.range_set_blaze.specs.Selection.{Selection}
+use Rattle.ip_sets.specs.declared.line.reading.Reading.{Reading}
 use Rattle.ip_sets.specs.declared.list.bad_line.BadLine.{BadLine}
 use Rattle.ip_sets.specs.declared.list.gathered.Gathered.{Gathered}
 use Rattle.ip_sets.specs.Gathering.{AreGathered, AreGatheredBefore, AreGatheredTo, StopsPast}
 use Rattle.ip_sets.specs.Line.{content}
-use Rattle.ip_sets.specs.List.{IsListOf, IsReportOf, has_order_mark, list_lines, order_mark, without_order_mark}
-use Rattle.ip_sets.proofs.lemmas.listing.Known.{read_line}
+use Rattle.ip_sets.specs.List.{IsListBy, IsReportBy, has_order_mark, list_lines, order_mark, without_order_mark}
+use Rattle.ip_sets.specs.Reading.{IsSameLine}
+use Rattle.ip_sets.proofs.lemmas.listing.Known.{read_line, same_read}
 use Rattle.ip_sets.proofs.lemmas.listing.Reading.{gathered_next, gathered_past}
 use lib.Pointwise.{bytes_decides, pointwise}
 
@@ -33,9 +35,10 @@ pub all_left : (bytes : List ℕ) → has_order_mark bytes ≡ false → without
 all_left bytes is = rw is refl
 
 -- A mark before a list makes no difference.
-pub mark_before : (bytes : List ℕ) (v4 v6 : Selection) → has_order_mark bytes ≡ false
-    → IsListOf bytes v4 v6 → IsListOf (order_mark ++ bytes) v4 v6
-mark_before bytes v4 v6 none list =
+pub mark_before : (reading : Reading) (bytes : List ℕ) (v4 v6 : Selection)
+    → has_order_mark bytes ≡ false → IsListBy reading bytes v4 v6
+    → IsListBy reading (order_mark ++ bytes) v4 v6
+mark_before reading bytes v4 v6 none list =
     let same : list_lines (order_mark ++ bytes) ≡ list_lines bytes =
     sym (ap lines (all_left bytes none)) in record {
       good = rw same list.good;
@@ -103,11 +106,11 @@ none_through (byte ∷ bytes) none = by (eqb byte 10) refl
 
 -- ---- the first line
 
-module _ {A : Type 0} (bytes : List ℕ) (before after : Option (List ℕ))
+module _ {A : Type 0} (reading : Reading) (bytes : List ℕ) (before after : Option (List ℕ))
     (buffer line first : List ℕ) (known : before ≡ Some bytes) (empty : buffer ≡ [])
     (read : IfSome before (λ all. line ≡ buffer ++ take_through 10 all))
     (drops : DropsThrough before after 10) (is : first ≡ without_order_mark line) (old : Gathered A)
-    (unread : (bytes : List ℕ) → AreGatheredBefore [] bytes bytes old) where
+    (unread : (bytes : List ℕ) → AreGatheredBefore reading [] bytes bytes old) where
   -- The bytes that count.
   abbrev all : List ℕ
   all = without_order_mark bytes
@@ -123,39 +126,39 @@ module _ {A : Type 0} (bytes : List ℕ) (before after : Option (List ℕ))
 
   -- It is gathered.
   pub first_next : 0 < length first → (new : Gathered A)
-      → ((before : List (List ℕ)) (other : List ℕ) → content other ≡ content first
-      → AreGathered [] before old → AreGathered [] (before ++ other ∷ []) new)
-      → AreGatheredTo [] all after new
+      → ((before : List (List ℕ)) (other : List ℕ) → IsSameLine other first
+      → AreGathered reading [] before old → AreGathered reading [] (before ++ other ∷ []) new)
+      → AreGatheredTo reading [] all after new
   first_next some new adds = (
     drop_through 10 all,
     first_read.1,
-    gathered_next [] all all first old (unread all) (omega (arith, some, ap length first_read.0))
-        (ap content first_read.0) new adds,
+    gathered_next reading [] all all first old (unread all) (omega (arith, some, ap length first_read.0))
+        (same_read first_read.0) new adds,
   )
 
   -- It is, if adding it succeeds.
   pub first_added : {T E : Type 0} (result : Result T E) → 0 < length first → (new : Gathered A)
-      → ((before : List (List ℕ)) (other : List ℕ) → content other ≡ content first
-      → AreGathered [] before old → OnOk result (AreGathered [] (before ++ other ∷ []) new))
-      → OnOk result (AreGatheredTo [] all after new)
+      → ((before : List (List ℕ)) (other : List ℕ) → IsSameLine other first
+      → AreGathered reading [] before old → OnOk result (AreGathered reading [] (before ++ other ∷ []) new))
+      → OnOk result (AreGatheredTo reading [] all after new)
   first_added (Ok value) some new adds = first_next some new adds
   first_added (Err fault) some new adds = tt
 
   -- It has no meaning.
   pub first_bad : 0 < length first → (bad : BadLine) (new : Gathered A)
-      → ((before : List (List ℕ)) (other : List ℕ) → content other ≡ content first
-      → AreGathered [] before old → IsReportOf bad (length before + 1) other
-      × AreGathered ([] ++ bad ∷ []) (before ++ other ∷ []) new)
-      → StopsPast [] bad all after new
+      → ((before : List (List ℕ)) (other : List ℕ) → IsSameLine other first
+      → AreGathered reading [] before old → IsReportBy reading bad (length before + 1) other
+      × AreGathered reading ([] ++ bad ∷ []) (before ++ other ∷ []) new)
+      → StopsPast reading [] bad all after new
   first_bad some bad new adds = (
     drop_through 10 all,
     first_read.1,
-    gathered_past [] all all first old (unread all) (omega (arith, some, ap length first_read.0))
-        (ap content first_read.0) bad new adds,
+    gathered_past reading [] all all first old (unread all) (omega (arith, some, ap length first_read.0))
+        (same_read first_read.0) bad new adds,
   )
 
   -- There is none.
-  pub first_none : length first ≡ 0 → AreGatheredTo [] all after old
+  pub first_none : length first ≡ 0 → AreGatheredTo reading [] all after old
   first_none none =
       let nothing = none_through all (sym (ap length first_read.0) ∙ none) in (
         all,

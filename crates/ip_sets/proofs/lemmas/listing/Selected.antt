@@ -1,9 +1,9 @@
 -- The addresses that a line means, and those of lines one after the other.
-use Rattle.std.proofs.Common.{◌≡◌, ◌⊎◌, inl, inr, ℕ, zero, suc, ◌+◌, ◌≤◌, Bool, true, false, cond, List, [], ◌∷◌, ◌++◌, refl, sym, ap, subst, ◌∙◌, arith}
+use Rattle.std.proofs.Common.{◌≡◌, ◌⊎◌, inl, inr, ℕ, zero, suc, ◌+◌, ◌-◌, ◌≤◌, Bool, true, false, cond, List, [], ◌∷◌, ◌++◌, refl, sym, ap, subst, ◌∙◌, arith}
 use Rattle.std.proofs.lemmas.Bool.Decides.{nat_tests}
 use Rattle.std.proofs.lemmas.List.{map-append}
 use Rattle.std.proofs.lemmas.List.Quantifiers.{Any-push}
-use Rattle.std.specs.Prelude.{Any, IsTrue, ◌&&◌, ◌||◌, nat_le, nat_lt}
+use Rattle.std.specs.Prelude.{Any, IsTrue, ◌&&◌, ◌||◌, IsSomeAnd, Option, Some, None, nat_le, nat_lt}
 use Rattle.std.specs.Range.{range_inclusive_start, range_inclusive_end, range_inclusive_exhausted}
 use Rattle.std.specs.declared.ops.RangeInclusive.{RangeInclusive}
 use Rattle.range_set_blaze.specs.Runs.{from_to, members}
@@ -11,12 +11,15 @@ use Rattle.range_set_blaze.specs.Selection.{Selection, union}
 use Rattle.range_set_blaze.proofs.MembersLemmas.{members-append}
 use Rattle.ip_sets.specs.declared.line.Line.{Line}
 use Rattle.ip_sets.specs.declared.line.Line.TheVariants.{Nothing, V4, V6}
+use Rattle.ip_sets.specs.declared.line.reading.Reading.{Reading}
 use Rattle.ip_sets.specs.AddressRange.{Spans, WritesOneOrBlock, WritesParts}
 use Rattle.ip_sets.specs.Address.{IsV4, IsV6}
 use Rattle.ip_sets.specs.Pairs.{spans_of}
+use Rattle.ip_sets.specs.Form.{entry}
 use Rattle.ip_sets.specs.Line.{IsLine, MeansV4, MeansV6, content}
 use Rattle.ip_sets.specs.LineParts.{parts}
 use Rattle.ip_sets.specs.List.{AddsAddressesOf, AreAddressesOf, HasAddress}
+use Rattle.ip_sets.specs.Reading.{IsLineBy, IsMapped, MeansV4By, MeansV6By, as_v4, first_mapped, is_mapped, plain, range_from}
 use Rattle.ip_sets.proofs.lemmas.spelling.OneMeaning.{IsLine_unique, Spans_unique}
 
 -- ---- ranges that a text writes
@@ -38,16 +41,103 @@ module _ (bits : ℕ) (IsAddress : List ℕ → ℕ → Type 0) where
   fresh_parts (first ∷ last ∷ []) range h = h.span.fresh
   fresh_parts (x ∷ y ∷ z ∷ texts) range h = absurd h
 
--- A range of IPv4 addresses that a line means was not iterated.
-pub fresh_v4 : (line : List ℕ) (range : RangeInclusive ℕ) → IsLine line (V4 range)
+-- A range of IPv4 addresses that a plain line means was not iterated.
+plain_v4 : (line : List ℕ) (range : RangeInclusive ℕ) → IsLine line (V4 range)
     → range_inclusive_exhausted range ≡ false
-fresh_v4 line range h = fresh_parts 32 IsV4 (parts 45 (content line)) range h
+plain_v4 line range h = fresh_parts 32 IsV4 (parts 45 (content line)) range h
 
 -- Neither was a range of IPv6 addresses.
-pub fresh_v6 : (line : List ℕ) (range : RangeInclusive ℕ) → IsLine line (V6 range)
+plain_v6 : (line : List ℕ) (range : RangeInclusive ℕ) → IsLine line (V6 range)
     → range_inclusive_exhausted range ≡ false
-fresh_v6 line range (inl h) = fresh_parts 128 IsV6 (parts 45 (content line)) range h
-fresh_v6 line range (inr h) = h.one.one.fresh
+plain_v6 line range (inl h) = fresh_parts 128 IsV6 (parts 45 (content line)) range h
+plain_v6 line range (inr h) = h.one.one.fresh
+
+-- Equal meanings as IPv4 addresses have equal ranges.
+V4_injective : (a b : RangeInclusive ℕ) → V4 a ≡ V4 b → a ≡ b
+V4_injective a b is = cc is
+
+-- Equal meanings as IPv6 addresses have equal ranges.
+V6_injective : (a b : RangeInclusive ℕ) → V6 a ≡ V6 b → a ≡ b
+V6_injective a b is = cc is
+
+-- ---- lines that are read in a given way
+
+-- A range of IPv4 addresses for which others stand was not iterated.
+mapped_v4 : (first last : ℕ) (both : Bool) (range : RangeInclusive ℕ)
+    → V4 range ≡ cond both (V4 (range_from (first - first_mapped) (last - first_mapped)))
+    (V6 (range_from first last)) → range_inclusive_exhausted range ≡ false
+mapped_v4 first last true range is = ap range_inclusive_exhausted (V4_injective range _ is)
+mapped_v4 first last false range is = absurd cc is
+
+-- Neither was a range of the others.
+mapped_v6 : (first last : ℕ) (both : Bool) (range : RangeInclusive ℕ)
+    → V6 range ≡ cond both (V4 (range_from (first - first_mapped) (last - first_mapped)))
+    (V6 (range_from first last)) → range_inclusive_exhausted range ≡ false
+mapped_v6 first last true range is = absurd cc is
+mapped_v6 first last false range is = ap range_inclusive_exhausted (V6_injective range _ is)
+
+-- A range of IPv4 addresses that an entry means was not iterated.
+entry_v4 : (maps : Bool) (text : List ℕ) (range : RangeInclusive ℕ)
+    → IsMapped maps (IsLine text) (V4 range) → range_inclusive_exhausted range ≡ false
+entry_v4 false text range h = plain_v4 text range h
+entry_v4 true text range (Nothing, is, same) = absurd cc same
+entry_v4 true text range (V4 read, is, same) =
+    ap range_inclusive_exhausted (V4_injective range read same) ∙ plain_v4 text read is
+entry_v4 true text range (V6 read, is, same) =
+    let first = range_inclusive_start read in
+    let last = range_inclusive_end read in
+    mapped_v4 first last (is_mapped first && is_mapped last) range same
+
+-- Neither was a range of IPv6 addresses.
+entry_v6 : (maps : Bool) (text : List ℕ) (range : RangeInclusive ℕ)
+    → IsMapped maps (IsLine text) (V6 range) → range_inclusive_exhausted range ≡ false
+entry_v6 false text range h = plain_v6 text range h
+entry_v6 true text range (Nothing, is, same) = absurd cc same
+entry_v6 true text range (V4 read, is, same) = absurd cc same
+entry_v6 true text range (V6 read, is, same) =
+    let first = range_inclusive_start read in
+    let last = range_inclusive_end read in
+    mapped_v6 first last (is_mapped first && is_mapped last) range same
+
+-- An entry has at most one meaning.
+one_entry : (maps : Bool) (text : List ℕ) (a b : Line) → IsMapped maps (IsLine text) a
+    → IsMapped maps (IsLine text) b → a ≡ b
+one_entry false text a b h k = IsLine_unique text a b h k
+one_entry true text a b h k = h.2 ∙ ap as_v4 (IsLine_unique text h.0 k.0 h.1 k.1) ∙ sym k.2
+
+module _ (reading : Reading) where
+  -- So a range of IPv4 addresses that a line means was not iterated.
+  pub fresh_v4 : (line : List ℕ) (range : RangeInclusive ℕ) → IsLineBy reading line (V4 range)
+      → range_inclusive_exhausted range ≡ false
+  fresh_v4 line range h = by (entry reading.form line) h
+    where
+      by : (part : Option (List ℕ))
+          → IsSomeAnd part (λ text. IsMapped reading.map_v4 (IsLine text) (V4 range))
+          → range_inclusive_exhausted range ≡ false
+      by None h = absurd h
+      by (Some text) h = entry_v4 reading.map_v4 text range h
+
+  -- Neither was a range of IPv6 addresses.
+  pub fresh_v6 : (line : List ℕ) (range : RangeInclusive ℕ) → IsLineBy reading line (V6 range)
+      → range_inclusive_exhausted range ≡ false
+  fresh_v6 line range h = by (entry reading.form line) h
+    where
+      by : (part : Option (List ℕ))
+          → IsSomeAnd part (λ text. IsMapped reading.map_v4 (IsLine text) (V6 range))
+          → range_inclusive_exhausted range ≡ false
+      by None h = absurd h
+      by (Some text) h = entry_v6 reading.map_v4 text range h
+
+  -- A line has at most one meaning.
+  pub IsLineBy_unique : (line : List ℕ) (a b : Line) → IsLineBy reading line a
+      → IsLineBy reading line b → a ≡ b
+  IsLineBy_unique line a b h k = by (entry reading.form line) h k
+    where
+      by : (part : Option (List ℕ))
+          → IsSomeAnd part (λ text. IsMapped reading.map_v4 (IsLine text) a)
+          → IsSomeAnd part (λ text. IsMapped reading.map_v4 (IsLine text) b) → a ≡ b
+      by None h k = absurd h
+      by (Some text) h k = one_entry reading.map_v4 text a b h k
 
 -- ---- the addresses of a line
 
@@ -78,23 +168,23 @@ abbrev from_first : ℕ → ℕ → RangeInclusive ℕ
 from_first first last = record { start = first; end = last; exhausted = false }
 
 -- Which range a line of some family means.
-module _ (family : RangeInclusive ℕ → Line)
+module _ (reading : Reading) (family : RangeInclusive ℕ → Line)
     (injective : (a b : RangeInclusive ℕ) → family a ≡ family b → a ≡ b)
-    (fresh : (line : List ℕ) (range : RangeInclusive ℕ) → IsLine line (family range)
+    (fresh : (line : List ℕ) (range : RangeInclusive ℕ) → IsLineBy reading line (family range)
     → range_inclusive_exhausted range ≡ false) where
   -- Whether a line means the addresses from the first to the last.
   abbrev Means : List ℕ → ℕ → ℕ → Type 0
   Means line first last =
-      (range : RangeInclusive ℕ) → Spans range first last → IsLine line (family range)
+      (range : RangeInclusive ℕ) → Spans range first last → IsLineBy reading line (family range)
 
   -- A line that means a range has the addresses of that range.
-  has_range : (line : List ℕ) (range : RangeInclusive ℕ) → IsLine line (family range)
+  has_range : (line : List ℕ) (range : RangeInclusive ℕ) → IsLineBy reading line (family range)
       → (number : ℕ) → range_inclusive_start range ≤ number → number ≤ range_inclusive_end range
       → HasAddress Means number line
   has_range line range is number from to = record {
     first = range_inclusive_start range;
     last = range_inclusive_end range;
-    meaning = λ other spans. subst (λ r. IsLine line (family r))
+    meaning = λ other spans. subst (λ r. IsLineBy reading line (family r))
         (Spans_unique range other _ _ _ _
         (record { start = refl; end = refl; fresh = fresh line range is }) spans refl refl) is;
     from_first = from;
@@ -102,31 +192,31 @@ module _ (family : RangeInclusive ℕ → Line)
   }
 
   -- It has no others.
-  in_range : (line : List ℕ) (range : RangeInclusive ℕ) → IsLine line (family range)
+  in_range : (line : List ℕ) (range : RangeInclusive ℕ) → IsLineBy reading line (family range)
       → (number : ℕ) → HasAddress Means number line
       → (range_inclusive_start range ≤ number) × (number ≤ range_inclusive_end range)
   in_range line range is number h =
       let other = from_first h.first h.last in
       let spelled = h.meaning other (record { start = refl; end = refl; fresh = refl }) in
       let same : range ≡ other =
-      injective range other (IsLine_unique line (family range) (family other) is spelled) in
+      injective range other (IsLineBy_unique reading line (family range) (family other) is spelled) in
       let start : range_inclusive_start range ≡ h.first = ap range_inclusive_start same in
       let end : range_inclusive_end range ≡ h.last = ap range_inclusive_end same in
       (omega (arith, start, h.from_first), omega (arith, end, h.to_last))
 
   -- A line that means something else has no address of the family.
-  has_none : (line : List ℕ) (what : Line) → IsLine line what
+  has_none : (line : List ℕ) (what : Line) → IsLineBy reading line what
       → ((range : RangeInclusive ℕ) → what ≡ family range → ⊥) → (number : ℕ)
       → HasAddress Means number line → ⊥
   has_none line what is other number h =
       let range = from_first h.first h.last in
       let spelled = h.meaning range (record { start = refl; end = refl; fresh = refl }) in
-      other range (IsLine_unique line what (family range) is spelled)
+      other range (IsLineBy_unique reading line what (family range) is spelled)
 
   -- A range that a line means is inserted.
   adds_range : (line : List ℕ) (range : RangeInclusive ℕ) (old new : Selection)
       → ((number : ℕ) → new number ≡ union old (ranks_of range) number)
-      → IsLine line (family range) → AddsAddressesOf Means line old new
+      → IsLineBy reading line (family range) → AddsAddressesOf Means line old new
   adds_range line range old new adds is number = (
     (λ h. elim (in_union (old number) range number (rw (adds number) at h)) [
       | inl before ↦ inl before
@@ -140,7 +230,7 @@ module _ (family : RangeInclusive ℕ → Line)
 
   -- Nothing is inserted.
   adds_none : (line : List ℕ) (what : Line) (selected : Selection)
-      → ((range : RangeInclusive ℕ) → what ≡ family range → ⊥) → IsLine line what
+      → ((range : RangeInclusive ℕ) → what ≡ family range → ⊥) → IsLineBy reading line what
       → AddsAddressesOf Means line selected selected
   adds_none line what selected other is number = (
     (λ h. inl h),
@@ -149,14 +239,6 @@ module _ (family : RangeInclusive ℕ → Line)
       | inr has ↦ absurd (has_none line what is other number has)
     ]),
   )
-
--- Equal meanings as IPv4 addresses have equal ranges.
-V4_injective : (a b : RangeInclusive ℕ) → V4 a ≡ V4 b → a ≡ b
-V4_injective a b is = cc is
-
--- Equal meanings as IPv6 addresses have equal ranges.
-V6_injective : (a b : RangeInclusive ℕ) → V6 a ≡ V6 b → a ≡ b
-V6_injective a b is = cc is
 
 -- ---- ranges that are gathered
 
@@ -190,41 +272,42 @@ pushed old new pair range fresh starts ends is number =
 
 -- ---- what is added for a line
 
--- The range of a line that means IPv4 addresses adds the IPv4 addresses of the line.
-pub adds_v4 : (line : List ℕ) (range : RangeInclusive ℕ) (old new : Selection)
-    → ((number : ℕ) → new number ≡ union old (ranks_of range) number)
-    → IsLine line (V4 range) → AddsAddressesOf MeansV4 line old new
-adds_v4 = adds_range V4 V4_injective fresh_v4
+module _ (reading : Reading) where
+  -- The range of a line that means IPv4 addresses adds the IPv4 addresses of the line.
+  pub adds_v4 : (line : List ℕ) (range : RangeInclusive ℕ) (old new : Selection)
+      → ((number : ℕ) → new number ≡ union old (ranks_of range) number)
+      → IsLineBy reading line (V4 range) → AddsAddressesOf (MeansV4By reading) line old new
+  adds_v4 = adds_range reading V4 V4_injective (fresh_v4 reading)
 
--- The range of a line that means IPv6 addresses adds the IPv6 addresses of the line.
-pub adds_v6 : (line : List ℕ) (range : RangeInclusive ℕ) (old new : Selection)
-    → ((number : ℕ) → new number ≡ union old (ranks_of range) number)
-    → IsLine line (V6 range) → AddsAddressesOf MeansV6 line old new
-adds_v6 = adds_range V6 V6_injective fresh_v6
+  -- The range of a line that means IPv6 addresses adds the IPv6 addresses of the line.
+  pub adds_v6 : (line : List ℕ) (range : RangeInclusive ℕ) (old new : Selection)
+      → ((number : ℕ) → new number ≡ union old (ranks_of range) number)
+      → IsLineBy reading line (V6 range) → AddsAddressesOf (MeansV6By reading) line old new
+  adds_v6 = adds_range reading V6 V6_injective (fresh_v6 reading)
 
--- A line that does not mean IPv4 addresses adds none.
-pub no_v4 : (line : List ℕ) (what : Line) (selected : Selection)
-    → ((range : RangeInclusive ℕ) → what ≡ V4 range → ⊥) → IsLine line what
-    → AddsAddressesOf MeansV4 line selected selected
-no_v4 = adds_none V4 V4_injective fresh_v4
+  -- A line that does not mean IPv4 addresses adds none.
+  pub no_v4 : (line : List ℕ) (what : Line) (selected : Selection)
+      → ((range : RangeInclusive ℕ) → what ≡ V4 range → ⊥) → IsLineBy reading line what
+      → AddsAddressesOf (MeansV4By reading) line selected selected
+  no_v4 = adds_none reading V4 V4_injective (fresh_v4 reading)
 
--- A line that does not mean IPv6 addresses adds none.
-pub no_v6 : (line : List ℕ) (what : Line) (selected : Selection)
-    → ((range : RangeInclusive ℕ) → what ≡ V6 range → ⊥) → IsLine line what
-    → AddsAddressesOf MeansV6 line selected selected
-no_v6 = adds_none V6 V6_injective fresh_v6
+  -- A line that does not mean IPv6 addresses adds none.
+  pub no_v6 : (line : List ℕ) (what : Line) (selected : Selection)
+      → ((range : RangeInclusive ℕ) → what ≡ V6 range → ⊥) → IsLineBy reading line what
+      → AddsAddressesOf (MeansV6By reading) line selected selected
+  no_v6 = adds_none reading V6 V6_injective (fresh_v6 reading)
 
--- A line without content means no address.
+-- A plain line without content means no address.
 pub empty_v4 : (line : List ℕ) → content line ≡ [] → (number : ℕ)
     → HasAddress MeansV4 number line → ⊥
-empty_v4 line empty number h =
-    has_none V4 V4_injective fresh_v4 line Nothing empty (λ range is. absurd (cc is)) number h
+empty_v4 line empty number h = has_none plain V4 V4_injective (fresh_v4 plain) line Nothing empty
+    (λ range is. absurd (cc is)) number h
 
 -- It means no IPv6 address either.
 pub empty_v6 : (line : List ℕ) → content line ≡ [] → (number : ℕ)
     → HasAddress MeansV6 number line → ⊥
-empty_v6 line empty number h =
-    has_none V6 V6_injective fresh_v6 line Nothing empty (λ range is. absurd (cc is)) number h
+empty_v6 line empty number h = has_none plain V6 V6_injective (fresh_v6 plain) line Nothing empty
+    (λ range is. absurd (cc is)) number h
 
 -- ---- one more line
 

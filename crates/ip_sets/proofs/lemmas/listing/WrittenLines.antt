@@ -20,6 +20,7 @@ use Rattle.ip_sets.specs.declared.line.Line.TheVariants.{V4, V6}
 use Rattle.ip_sets.specs.Address.{IsV4, IsV6, v4_text, v6_text}
 use Rattle.ip_sets.specs.AddressRange.{block_end, block_start}
 use Rattle.ip_sets.specs.Line.{IsLine, MeansV4, MeansV6}
+use Rattle.ip_sets.specs.Reading.{plain}
 use Rattle.ip_sets.specs.List.{AddsAddressesOf, AreAddressesOf, HasAddress, IsGoodLine, IsListOf, has_order_mark, list_lines}
 use Rattle.ip_sets.proofs.lemmas.listing.FirstLine.{then_others}
 use Rattle.ip_sets.proofs.lemmas.listing.LineEnds.{content_without_return}
@@ -143,9 +144,9 @@ adds_run_v4 v6 line first last none means rest old new adds list =
     let range = fresh first last in
     one_more line rest (V4 range) old v6 new v6 none
     (means range (record { start = refl; end = refl; fresh = refl }))
-    (λ other is. adds_v4 other range old new
+    (λ other is. adds_v4 plain other range old new
     (λ number. adds number ∙ run_numbers first last number (old number)) is)
-    (λ other is. no_v6 other (V4 range) v6 (λ range is. absurd (cc is)) is)
+    (λ other is. no_v6 plain other (V4 range) v6 (λ range is. absurd (cc is)) is)
     list
 
 -- A line that means IPv6 addresses adds them.
@@ -155,8 +156,8 @@ adds_run_v6 v4 line first last none means rest old new adds list =
     let range = fresh first last in
     one_more line rest (V6 range) v4 old v4 new none
     (means range (record { start = refl; end = refl; fresh = refl }))
-    (λ other is. no_v4 other (V6 range) v4 (λ range is. absurd (cc is)) is)
-    (λ other is. adds_v6 other range old new
+    (λ other is. no_v4 plain other (V6 range) v4 (λ range is. absurd (cc is)) is)
+    (λ other is. adds_v6 plain other range old new
     (λ number. adds number ∙ run_numbers first last number (old number)) is)
     list
 

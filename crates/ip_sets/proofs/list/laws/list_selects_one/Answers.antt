@@ -1,5 +1,6 @@
 use Rattle.ip_sets.specs.Line.{MeansV4, MeansV6}
 use Rattle.ip_sets.specs.List.{list_lines}
+use Rattle.ip_sets.specs.Reading.{plain}
 use Rattle.ip_sets.proofs.lemmas.listing.OneSelection.{not_both, one_bad_line, one_selection}
 use Rattle.ip_sets.proofs.list.laws.list_selects_one.Goals as goal
 
@@ -12,7 +13,7 @@ returns-clause-v6 c = λ bytes v4 v6 other4 other6 number h k.
     one_selection MeansV6 (list_lines bytes) v6 other6 h.v6_addresses k.v6_addresses number
 
 pub returns-clause-bad_line : goal.returns-clause-bad_line
-returns-clause-bad_line c = one_bad_line
+returns-clause-bad_line c = one_bad_line plain
 
 pub returns-clause-not_both : goal.returns-clause-not_both
-returns-clause-not_both c = not_both
+returns-clause-not_both c = not_both plain

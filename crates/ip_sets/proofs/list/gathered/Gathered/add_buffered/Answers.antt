@@ -21,7 +21,7 @@ returns-in-Ok-clause-gathered g c = λ all reports has.
     on_ok_weaker lines.result.1
     (λ gathered. (drop lines.result.0 shown ++ more, parts.1, gathered))
     (lines.ensures.gathered all more reports
-    (subst (λ rest. AreGatheredBefore reports all rest c.args.self.now) (sym parts.0) has.2))
+    (subst (λ rest. AreGatheredBefore c.args.reading reports all rest c.args.self.now) (sym parts.0) has.2))
 
 pub returns-in-Ok-clause-bad_line : goal.returns-in-Ok-clause-bad_line
 returns-in-Ok-clause-bad_line g c = λ all reports bad has is.
@@ -38,5 +38,5 @@ returns-in-Ok-clause-bad_line g c = λ all reports bad has is.
       drop lines.result.0 shown ++ more,
       parts.1,
       lines.ensures.bad_line all more reports bad
-          (subst (λ rest. AreGatheredBefore reports all rest c.args.self.now) (sym parts.0) has.2) is,
+          (subst (λ rest. AreGatheredBefore c.args.reading reports all rest c.args.self.now) (sym parts.0) has.2) is,
     )

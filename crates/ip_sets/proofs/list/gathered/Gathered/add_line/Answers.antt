@@ -1,9 +1,9 @@
 use Rattle.std.proofs.Common.{◌≡◌, ◌∙◌, ◌+◌, [], ◌∷◌, ◌++◌, length, refl, subst, arith}
 use Rattle.ip_sets.specs.declared.list.gathered.Gathered.{Gathered}
 use Rattle.ip_sets.specs.Gathering.{AreGathered}
-use Rattle.ip_sets.specs.List.{IsReportOf}
+use Rattle.ip_sets.specs.List.{IsReportBy}
 use Rattle.ip_sets.proofs.lemmas.listing.Reading.{gathered_bad, gathered_line}
-use Rattle.ip_sets.proofs.lemmas.listing.Reports.{same_meaning, same_report}
+use Rattle.ip_sets.proofs.lemmas.listing.Reports.{same_meaning_by, same_report}
 use Rattle.ip_sets.proofs.list.gathered.Gathered.add_line.Goals as goal
 
 -- The line has no meaning, and is passed over.
@@ -15,13 +15,13 @@ returns-in_default-clause-bad_line g c = λ same before reports bad reads is has
       v6 = c.args.self.now.v6;
       number = c.in_ok-self.field-0;
     } in
-    let report = same_report c.args.line.now same c.new.result (length before + 1) is
+    let report = same_report c.args.reading c.args.line.now same c.new.result (length before + 1) is
     (rw c.in_default.is at reads) (c.new.ensures.number ∙ has.next) c.new.ensures.reason
     c.new.ensures.text in
-    subst (λ each. IsReportOf each (length before + 1) same
-    × AreGathered (reports ++ each ∷ []) (before ++ same ∷ []) new) one (
+    subst (λ each. IsReportBy c.args.reading each (length before + 1) same
+    × AreGathered c.args.reading (reports ++ each ∷ []) (before ++ same ∷ []) new) one (
       report,
-      gathered_bad reports before same c.new.result c.args.self.now new has report
+      gathered_bad c.args.reading reports before same c.new.result c.args.self.now new has report
           c.in_ok-self.ensures.next refl refl,
     )
 
@@ -29,8 +29,9 @@ returns-in_default-clause-bad_line g c = λ same before reports bad reads is has
 pub returns-clause-gathered : goal.returns-clause-gathered
 returns-clause-gathered g c = λ same before reports reads is has.
     let meaning = c.in-Some.meaning in
-    let means = same_meaning same c.args.line.now is meaning (rw c.in-Some.is at reads) in
-    gathered_line reports before same meaning c.args.self.now c.add.new.self has means
+    let means = same_meaning_by same c.args.line.now is c.args.reading meaning (rw c.in-Some.is at reads) in
+    gathered_line c.args.reading reports before same meaning c.args.self.now c.add.new.self has means
     (omega (arith, c.in_ok-self.ensures.next, c.add.ensures.number))
-    (c.in_ok-add.ensures.v4 same means) (c.in_ok-add.ensures.v6 same means)
+    (c.in_ok-add.ensures.v4 c.args.reading same means)
+    (c.in_ok-add.ensures.v6 c.args.reading same means)
     c.in_ok-add.ensures.range_count

@@ -8,8 +8,8 @@ abbrev pub invariant-loop-first : goal.invariant-loop-first
 invariant-loop-first g l = (length l.rest ≤ length l.bytes)
     × (l.rest ≡ drop (length l.bytes - length l.rest) l.bytes)
     × ((all more : List ℕ) (reports : List BadLine)
-    → AreGatheredBefore reports all (l.bytes ++ more) l.initial.self
-    → AreGatheredBefore reports all (l.rest ++ more) l.self)
+    → AreGatheredBefore l.reading reports all (l.bytes ++ more) l.initial.self
+    → AreGatheredBefore l.reading reports all (l.rest ++ more) l.self)
 
 abbrev pub decreases-loop-first : goal.decreases-loop-first
 decreases-loop-first g l = length l.rest

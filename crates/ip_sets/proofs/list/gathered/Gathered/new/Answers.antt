@@ -3,4 +3,4 @@ use Rattle.ip_sets.proofs.lemmas.listing.Reading.{gathered_none}
 use Rattle.ip_sets.proofs.list.gathered.Gathered.new.Goals as goal
 
 pub returns : goal.returns
-returns g c = λ bytes. gathered_none bytes _ refl c.new.ensures.items c.new-2.ensures.items
+returns g c = λ reading bytes. gathered_none reading bytes _ refl c.new.ensures.items c.new-2.ensures.items

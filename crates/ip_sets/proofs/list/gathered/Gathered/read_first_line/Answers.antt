@@ -13,7 +13,7 @@ has_bytes (byte ∷ text) some = omega arith
 pub returns-then-is_empty-clause-gathered : goal.returns-then-is_empty-clause-gathered
 returns-then-is_empty-clause-gathered g c = λ bytes known.
     let first = c.without_order_mark-first.result.now in
-    first_none bytes (g.R.Read.remaining c.args.input.now)
+    first_none c.args.reading bytes (g.R.Read.remaining c.args.input.now)
     (g.R.Read.remaining c.read_until.new.self) c.args.line.now.items c.read_until.new.buf.items
     first known c.requires.empty c.in_ok-read_until.ensures.bytes c.in_ok-read_until.ensures.rest
     (c.without_order_mark-first.ensures ∙ ap without_order_mark c.deref.ensures.value)
@@ -24,24 +24,24 @@ returns-then-is_empty-clause-gathered g c = λ bytes known.
 pub returns-clause-gathered : goal.returns-clause-gathered
 returns-clause-gathered g c = λ bytes known.
     let first = c.without_order_mark-first.result.now in
-    first_added bytes (g.R.Read.remaining c.args.input.now)
+    first_added c.args.reading bytes (g.R.Read.remaining c.args.input.now)
     (g.R.Read.remaining c.read_until.new.self) c.args.line.now.items c.read_until.new.buf.items
     first known c.requires.empty c.in_ok-read_until.ensures.bytes c.in_ok-read_until.ensures.rest
     (c.without_order_mark-first.ensures ∙ ap without_order_mark c.deref.ensures.value)
     c.args.self.now c.requires.unread c.add_line.result
     (has_bytes first (sym c.is_empty.ensures ∙ c.if-is_empty.false)) c.add_line.new.self
     (λ before other same are.
-    c.add_line.ensures.gathered other before [] c.parse_line.ensures same are)
+    c.add_line.ensures.gathered other before [] c.parse_line_by.ensures same are)
 
 -- It has no meaning.
 pub returns-clause-bad_line : goal.returns-clause-bad_line
 returns-clause-bad_line g c = λ bytes bad known is.
     let first = c.without_order_mark-first.result.now in
-    first_bad bytes (g.R.Read.remaining c.args.input.now)
+    first_bad c.args.reading bytes (g.R.Read.remaining c.args.input.now)
     (g.R.Read.remaining c.read_until.new.self) c.args.line.now.items c.read_until.new.buf.items
     first known c.requires.empty c.in_ok-read_until.ensures.bytes c.in_ok-read_until.ensures.rest
     (c.without_order_mark-first.ensures ∙ ap without_order_mark c.deref.ensures.value)
     c.args.self.now c.requires.unread
     (has_bytes first (sym c.is_empty.ensures ∙ c.if-is_empty.false)) bad c.add_line.new.self
     (λ before other same are.
-    c.add_line.ensures.bad_line other before [] bad c.parse_line.ensures same are is)
+    c.add_line.ensures.bad_line other before [] bad c.parse_line_by.ensures same are is)
