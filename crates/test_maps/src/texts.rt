@@ -51,11 +51,12 @@ fn is_walked(names: Names) -> bool {
         && inside.next_back().is_some_and(|pair| pair.0 == 5)
         && inside.next().is_none();
     let mut keys = names.into_keys();
-    is_inside
-        && keys.next() == Some(0)
-        && keys.next_back() == Some(9)
-        && keys.next() == Some(1)
-        && keys.count() == 7
+    let are_owned = keys.next() == Some(0) && keys.next_back() == Some(9) && keys.next() == Some(1);
+    let mut count = 0u8;
+    for _ in keys {
+        count = count.saturating_add(1);
+    }
+    is_inside && are_owned && count == 7
 }
 
 /// Whether equal names are joined, and a removed name is returned.
