@@ -17,8 +17,8 @@ pub use crate::blocks::{
 pub use crate::line::{Line, ListForm, PLAIN, Reading, Reason, parse_line, parse_line_by};
 pub use crate::list::{
     AddressList, BadLine, Excerpt, ListFault, comments_select_nothing, list_by_selects_one,
-    list_selects_one, order_mark_selects_nothing, read_list, read_list_by, read_list_past_bad_lines,
-    read_list_past_bad_lines_by,
+    list_selects_one, order_mark_selects_nothing, read_list, read_list_by,
+    read_list_past_bad_lines, read_list_past_bad_lines_by,
 };
 pub use crate::operations::{Operation, combine};
 pub use crate::set::{AddressRanges, AddressSet};

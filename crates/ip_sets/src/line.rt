@@ -20,8 +20,8 @@ pub(crate) mod range;
 pub(crate) mod reading;
 pub(crate) mod reasons;
 
-use crate::line::form::entry;
 pub use crate::line::form::ListForm;
+use crate::line::form::entry;
 use crate::line::mapped::as_v4;
 use crate::line::parts::trimmed;
 use crate::line::plain::plain_line;
@@ -94,7 +94,11 @@ pub(crate) fn first_line_by(reading: Reading, bytes: &[u8]) -> Option<FirstLine<
     ensures { IfSome result (λ first. BeginsWithLine
         (λ line. Reads first.meaning (IsLineBy reading line)) bytes.now first.rest.now) }
 {
-    if let Reading { form: ListForm::Plain, map_v4: false } = reading {
+    if let Reading {
+        form: ListForm::Plain,
+        map_v4: false,
+    } = reading
+    {
         // Most lines are plain.
         if let Some(first) = first_plain_line(bytes) {
             return Some(first);

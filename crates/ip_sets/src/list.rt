@@ -147,7 +147,11 @@ pub fn read_list_past_bad_lines_by<A: Allocator + Copy, R: BufRead>(
 {
     let mut gathered = Gathered::new(alloc);
     let mut line = Vec::new(alloc);
-    tell(gathered.read_first_line(reading, input, &mut line), name, told)?;
+    tell(
+        gathered.read_first_line(reading, input, &mut line),
+        name,
+        told,
+    )?;
     for _ in 0..u64::MAX {
         let is_done = tell(gathered.read_on(reading, input, &mut line), name, told)?;
         if is_done {

@@ -140,11 +140,7 @@ impl<A: Allocator> Gathered<A> {
 
     // Consumes every complete line in the buffer, up to and including the first bad one. The rest
     // stays in the buffer.
-    fn add_buffered<R: BufRead>(
-        &mut self,
-        reading: Reading,
-        input: &mut R,
-    ) -> Result<(), ListFault>
+    fn add_buffered<R: BufRead>(&mut self, reading: Reading, input: &mut R) -> Result<(), ListFault>
         ensures gathered { (bytes : List ℕ) (reports : List BadLine)
             → AreGatheredTo reading reports bytes (R.remaining input.old) self.old
             → OnOk result (AreGatheredTo reading reports bytes (R.remaining input.new) self.new) }

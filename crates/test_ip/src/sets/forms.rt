@@ -75,14 +75,20 @@ fn one_column_is_the_entry(rt: HostRuntime) {
 
 /// Lines that `ipset save` writes, some that it doesn't, and what they mean.
 static SAVED: [(&str, Wanted); 24] = [
-    ("create a hash:ip family inet hashsize 1024 maxelem 65536", Wanted::Nothing),
+    (
+        "create a hash:ip family inet hashsize 1024 maxelem 65536",
+        Wanted::Nothing,
+    ),
     ("create a hash:net family inet6", Wanted::Nothing),
     ("create", Wanted::Nothing),
     ("add a 0.0.0.4", Wanted::V4(4, 4)),
     ("add a 0.0.0.4/30", Wanted::V4(4, 7)),
     ("add a 0.0.0.4-0.0.0.9", Wanted::V4(4, 9)),
     ("add a ::4/126", Wanted::V6(4, 7)),
-    ("add a 0.0.0.4 timeout 300 packets 0 bytes 0", Wanted::V4(4, 4)),
+    (
+        "add a 0.0.0.4 timeout 300 packets 0 bytes 0",
+        Wanted::V4(4, 4),
+    ),
     ("add a 0.0.0.4 comment \"x # y\"", Wanted::V4(4, 4)),
     ("  add\ta  0.0.0.4\r", Wanted::V4(4, 4)),
     ("# add a 0.0.0.4", Wanted::Nothing),
@@ -98,7 +104,10 @@ static SAVED: [(&str, Wanted); 24] = [
     ("del a 0.0.0.4", Wanted::Bad),
     ("add a 0.0.0.0/8 nomatch", Wanted::Bad),
     ("create a hash:ip family inet netmask 24", Wanted::Bad),
-    ("create a hash:ip family inet bitmask 255.255.0.255", Wanted::Bad),
+    (
+        "create a hash:ip family inet bitmask 255.255.0.255",
+        Wanted::Bad,
+    ),
 ];
 
 #[test]
@@ -180,11 +189,23 @@ static MAPPED: [(&str, Wanted); 16] = [
     ("[::ffff:0.0.0.4] # four", Wanted::V4(4, 4)),
     ("0:0:0:0:0:ffff:0:5", Wanted::V4(5, 5)),
     ("0.0.0.4", Wanted::V4(4, 4)),
-    ("::fffe:ffff:ffff", Wanted::V6(0xfffe_ffff_ffff, 0xfffe_ffff_ffff)),
-    ("::1:0:0:0", Wanted::V6(0x1_0000_0000_0000, 0x1_0000_0000_0000)),
+    (
+        "::fffe:ffff:ffff",
+        Wanted::V6(0xfffe_ffff_ffff, 0xfffe_ffff_ffff),
+    ),
+    (
+        "::1:0:0:0",
+        Wanted::V6(0x1_0000_0000_0000, 0x1_0000_0000_0000),
+    ),
     ("::/0", Wanted::V6(0, u128::MAX)),
-    ("::fffe:ffff:ffff-::ffff:0:0", Wanted::V6(0xfffe_ffff_ffff, 0xffff_0000_0000)),
-    ("::ffff:0:5-::1:0:0:0", Wanted::V6(0xffff_0000_0005, 0x1_0000_0000_0000)),
+    (
+        "::fffe:ffff:ffff-::ffff:0:0",
+        Wanted::V6(0xfffe_ffff_ffff, 0xffff_0000_0000),
+    ),
+    (
+        "::ffff:0:5-::1:0:0:0",
+        Wanted::V6(0xffff_0000_0005, 0x1_0000_0000_0000),
+    ),
     ("# ::ffff:0:0", Wanted::Nothing),
     ("::ffff:1.2.3.256", Wanted::Bad),
 ];
@@ -201,7 +222,8 @@ fn mapped_addresses_are_ipv4_addresses(rt: HostRuntime) {
 }
 
 /// A list of a form with mapped addresses.
-const ENTRIES: &[u8] = b"add a ::ffff:0.0.0.4\nadd a 0.0.0.5\nadd a ::ffff:0.0.0.6/127\nadd a ::6\n";
+const ENTRIES: &[u8] =
+    b"add a ::ffff:0.0.0.4\nadd a 0.0.0.5\nadd a ::ffff:0.0.0.6/127\nadd a ::6\n";
 
 #[test]
 fn entries_of_a_form_may_be_mapped(rt: HostRuntime) -> Result<(), Fail> {
@@ -219,7 +241,14 @@ fn entries_of_a_form_may_be_mapped(rt: HostRuntime) -> Result<(), Fail> {
 }
 
 /// Lines, read as plain ones.
-static LINES: [&str; 6] = ["0.0.0.4", "", "x", "::1/64", "0.0.0.4 0.0.0.5", "add a 0.0.0.4"];
+static LINES: [&str; 6] = [
+    "0.0.0.4",
+    "",
+    "x",
+    "::1/64",
+    "0.0.0.4 0.0.0.5",
+    "add a 0.0.0.4",
+];
 
 #[test]
 fn plain_lines_mean_what_they_meant(rt: HostRuntime) {
@@ -236,12 +265,36 @@ fn plain_lines_mean_what_they_meant(rt: HostRuntime) {
 
 /// Forms, bad lines in them, and what is reported of these.
 static REPORTS: [(ListForm, &str, &str); 13] = [
-    (ListForm::Column(1), " 0.0.0.4 # a", "1: too few columns: 0.0.0.4 # a"),
-    (ListForm::Column(1), "a 0.0.0.256 b", "1: a number above 255: 0.0.0.256"),
-    (ListForm::Column(0), "a 0.0.0.4", "1: a name, not an address: a"),
-    (ListForm::Column(0), "0.0.0.0/33 a", "1: a length above 32: 0.0.0.0/33"),
-    (ListForm::Ipset, "del a 0.0.0.4", "1: not a line of ipset save: del a 0.0.0.4"),
-    (ListForm::Ipset, "add a", "1: not a line of ipset save: add a"),
+    (
+        ListForm::Column(1),
+        " 0.0.0.4 # a",
+        "1: too few columns: 0.0.0.4 # a",
+    ),
+    (
+        ListForm::Column(1),
+        "a 0.0.0.256 b",
+        "1: a number above 255: 0.0.0.256",
+    ),
+    (
+        ListForm::Column(0),
+        "a 0.0.0.4",
+        "1: a name, not an address: a",
+    ),
+    (
+        ListForm::Column(0),
+        "0.0.0.0/33 a",
+        "1: a length above 32: 0.0.0.0/33",
+    ),
+    (
+        ListForm::Ipset,
+        "del a 0.0.0.4",
+        "1: not a line of ipset save: del a 0.0.0.4",
+    ),
+    (
+        ListForm::Ipset,
+        "add a",
+        "1: not a line of ipset save: add a",
+    ),
     (
         ListForm::Ipset,
         "add a 0.0.0.0/8 nomatch",
@@ -252,7 +305,11 @@ static REPORTS: [(ListForm, &str, &str); 13] = [
         "add a 0.0.0.4,tcp:80",
         "1: not an address, block or range: 0.0.0.4,tcp:80",
     ),
-    (ListForm::P2p, "0.0.0.4-0.0.0.9", "1: no range after a colon: 0.0.0.4-0.0.0.9"),
+    (
+        ListForm::P2p,
+        "0.0.0.4-0.0.0.9",
+        "1: no range after a colon: 0.0.0.4-0.0.0.9",
+    ),
     (ListForm::P2p, "a;b", "1: no range after a colon: a;b"),
     (
         ListForm::P2p,
@@ -282,7 +339,8 @@ fn a_bad_line_has_the_reason_of_its_form(rt: HostRuntime) -> Result<(), Fail> {
 }
 
 /// A list that `ipset save` wrote, with a byte order mark and two lines that it did not write.
-const TEXT: &[u8] = b"\xef\xbb\xbfcreate a hash:net\nadd a 0.0.0.4/31\r\nx\nadd a ::1\nadd a 0.0.0.9\n\
+const TEXT: &[u8] =
+    b"\xef\xbb\xbfcreate a hash:net\nadd a 0.0.0.4/31\r\nx\nadd a ::1\nadd a 0.0.0.9\n\
     add a 0.0.0.6 timeout 9\nadd";
 
 /// What is told of its bad lines.

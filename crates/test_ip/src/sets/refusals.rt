@@ -9,8 +9,7 @@ use ip_sets::selection::{v4_ranges, v6_ranges};
 use ip_sets::{
     AddressList, AddressSet, IntoBlocks, Line, ListFault, ListForm, blocks_of, combine, parse_line,
     parse_line_by, read_list, read_list_by, read_list_past_bad_lines, read_list_past_bad_lines_by,
-    set_blocks, v4_block_text, v4_range_text, v4_text,
-    v6_block_text, v6_range_text, v6_text,
+    set_blocks, v4_block_text, v4_range_text, v4_text, v6_block_text, v6_range_text, v6_text,
 };
 use range_set_blaze::{RangeSetBlaze, UIntPlusOne};
 use std::alloc::{AllocError, Global};
@@ -189,7 +188,10 @@ fn is_read<'a>(lists: &[AddressList<&'a Heap>], reading: Reading) -> bool {
     };
     match reading {
         Reading::ParseLine => matches!(parse_line(b"::1 # one"), Some(Line::V6(_))),
-        Reading::ParseLineBy => matches!(parse_line_by(SAVED, b"add a ::ffff:0:4"), Some(Line::V4(_))),
+        Reading::ParseLineBy => matches!(
+            parse_line_by(SAVED, b"add a ::ffff:0:4"),
+            Some(Line::V4(_))
+        ),
         Reading::Named => ListForm::named("column=2") == Some(ListForm::Column(1)),
         Reading::Ranges => are(&list.v4, &[(1, 5)]) && are(&list.v6, &[(1, 5)]),
         Reading::RangesLen => list.v4.ranges_len() == 1 && list.v6.ranges_len() == 1,

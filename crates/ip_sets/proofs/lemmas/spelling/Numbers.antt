@@ -74,8 +74,10 @@ unread limit text fits all none = by (has_bytes text) refl (nat_lt (digits_value
         → nat_lt (digits_value 10 text) limit ≡ below → None ≡ number_below limit text
     by true full true less =
         let small = ltb-true (digits_value 10 text) limit less in
-        absurd (none ((ltb-true 0 (length text) full, all_digits text all),
-        omega (arith, small, fits)))
+        absurd (none (
+          (ltb-true 0 (length text) full, all_digits text all),
+          omega (arith, small, fits),
+        ))
     by true full false less = rw less (sym (not_below (has_bytes text)
         (list_all is_ascii_digit text) (digits_value 10 text)))
     by false full below less = rw full refl
