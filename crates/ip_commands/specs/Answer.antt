@@ -7,10 +7,10 @@ use Rattle.std.specs.declared.net.ip_addr.IpAddr.TheVariants as Ip
 use Rattle.range_set_blaze.specs.Runs.{Interval, IsCanonicalIn, members}
 use Rattle.range_set_blaze.specs.Selection.{Agree, Selection, any_of, count, difference}
 use Rattle.ip_sets.specs.Blocks.{AreMaximalBlocks}
-use Rattle.ip_sets.specs.List.{has_bytes}
 use Rattle.ip_sets.specs.Operation.{selected_by}
 use Rattle.ip_commands.specs.Files.{AreFilesOf, AreReported, IsFileOf, Selected, file_names}
-use Rattle.ip_commands.specs.Text.{IsListText, IsSignedList, kept_v4, kept_v6}
+use Rattle.ip_commands.specs.Layout.{IsLaidList, writes_some}
+use Rattle.ip_commands.specs.Text.{IsSignedList, kept_v4, kept_v6}
 use Rattle.ip_commands.specs.declared.request.Diff.{Diff}
 use Rattle.ip_commands.specs.declared.request.Form.{Form}
 use Rattle.ip_commands.specs.declared.commands.Outcome.{Outcome}
@@ -32,9 +32,10 @@ v6_of lists = map (λ list. list.v6) lists
 
 -- ---- what an operation selects
 
--- How an operation ends that writes this text: as a failure if it is empty and that is asked for.
-abbrev pub combined_outcome : Bool → List ℕ → Outcome
-combined_outcome fail_empty text = if fail_empty && not (has_bytes text) then Empty else Done
+-- How an operation ends that writes some address, or none: as a failure if it writes none and that
+-- is asked for.
+abbrev pub combined_outcome : (fail_empty some : Bool) → Outcome
+combined_outcome fail_empty some = if fail_empty && not some then Empty else Done
 
 -- ---- counts
 
@@ -136,8 +137,7 @@ module _ (bytes : List ℕ → Option (List ℕ)) where
     pub v6 : List Interval
     pub v4_made : Agree (2 ^ 32) (members v4) (selected_by combination.operation (v4_of lists))
     pub v6_made : Agree (2 ^ 128) (members v6) (selected_by combination.operation (v6_of lists))
-    pub whole : IsListText combination.form (kept_v4 combination.families v4)
-        (kept_v6 combination.families v6) text
+    pub whole : IsLaidList combination.style v4 v6 text
 
   -- Whether the text counts the addresses that some list in the files has.
   pub record IsCounted (families : Families) (skip_bad : Bool) (files : List (List ℕ))
@@ -178,8 +178,9 @@ module _ (bytes : List ℕ → Option (List ℕ)) where
   abbrev pub Answers : Request → Outcome → Option (List ℕ) → Option (List ℕ) → Type 0
   Answers Help outcome old new = (outcome ≡ Done) × Appends old new HELP.now
   Answers Version outcome old new = (outcome ≡ Done) × Appends old new VERSION.now
-  Answers (Combine it) outcome old new = (text : List ℕ) × IsCombined it text
-      × (outcome ≡ combined_outcome it.fail_empty text) × Appends old new text
+  Answers (Combine it) outcome old new = (text : List ℕ) × (made : IsCombined it text)
+      × (outcome ≡ combined_outcome it.fail_empty (writes_some it.style.families made.v4 made.v6))
+      × Appends old new text
   Answers (Count families sources) outcome old new = (outcome ≡ Done)
       × ((text : List ℕ) × IsCounted families sources.skip_bad (file_names sources) text
       × Appends old new text)

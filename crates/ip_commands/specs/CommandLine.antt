@@ -1,8 +1,8 @@
 -- Command lines: what the words after the program's name ask for, or the first thing that is wrong
 -- with them.
-use Rattle.std.specs.Prelude.{◌≡◌, ℕ, ◌^◌, ◌<◌, ◌≤◌, Bool, not, ◌&&◌, ◌||◌, IsFalse, IsTrue, List, [], ◌∷◌, ◌++◌, Option, Some, None, is_some, unwrap_or, bytes_eq, codes, filter, filter_map, find, if◌then◌else◌, length, map, nat_lt}
+use Rattle.std.specs.Prelude.{◌≡◌, ℕ, ◌^◌, ◌<◌, ◌≤◌, Bool, not, ◌&&◌, ◌||◌, ◌==◌, IfSome, IsFalse, IsTrue, List, [], ◌∷◌, ◌++◌, Option, Some, None, is_some, unwrap_or, bytes_eq, codes, filter, filter_map, find, if◌then◌else◌, length, map, nat_lt}
 use Rattle.std.specs.List.{count_by, last_or, list_any}
-use Rattle.std.specs.Option.{IsSomeAnd}
+use Rattle.std.specs.Option.{IsSomeAnd, option_and_then, option_map, option_or}
 use Rattle.std.specs.Str.Parse.{IsNumeral, digits_value, starts_with_minus, without_leading_plus}
 use Rattle.std.specs.Net.Grammar.{IsIpText}
 use Rattle.std.specs.declared.net.ip_addr.IpAddr.{IpAddr}
@@ -17,15 +17,44 @@ use Rattle.ip_commands.specs.declared.arguments.Question.TheVariants as Asked
 use Rattle.ip_commands.specs.declared.fault.Fault.{Fault}
 use Rattle.ip_commands.specs.declared.fault.Fault.TheVariants.{BadLine, CommandLine, NoMemory, NotRead, NotWritten}
 use Rattle.ip_commands.specs.declared.fault.Misuse.{Misuse}
-use Rattle.ip_commands.specs.declared.fault.Misuse.TheVariants.{ExtraWord, MissingAddress, MissingFile, MissingNumber, NoAddress, NoCommand, NoNumber, NotText, RepeatedInput, UnknownCommand, UnknownOption}
+use Rattle.ip_commands.specs.declared.fault.Misuse.TheVariants.{ExtraWord, MissingAddress, MissingFile, MissingNumber, MissingValue, NoAddress, NoCommand, NoNumber, NotText, RepeatedInput, UnknownCommand, UnknownOption, UnknownValue}
 use Rattle.ip_commands.specs.declared.request.Families.{Families}
 use Rattle.ip_commands.specs.declared.request.Families.TheVariants.{Both, V4, V6}
 use Rattle.ip_commands.specs.declared.request.Form.{Form}
 use Rattle.ip_commands.specs.declared.request.Form.TheVariants.{Blocks, Ranges}
+use Rattle.ip_commands.specs.declared.request.Layout.{Layout}
+use Rattle.ip_commands.specs.declared.request.Layout.TheVariants.{Csv, Ipset, Json, Lines, Nft}
 use Rattle.ip_commands.specs.declared.request.Request.{Request}
+use Rattle.ip_commands.specs.declared.request.Style.{Style}
 use Rattle.ip_commands.specs.declared.request.Request.TheVariants.{Check, Combine, Count, Diff as Compare, Has, Help, Version}
 
--- ---- options and operands
+-- ---- options with a value. The value is the next word, or follows `=` in the same word.
+
+-- Whether the value of an option is the next word.
+abbrev pub needs_value : List ℕ → Bool
+needs_value word = bytes_eq word (codes "--format")
+    || (bytes_eq word (codes "--prefix") || bytes_eq word (codes "--suffix"))
+
+-- An option and its value as one word.
+abbrev pub assigned : List ℕ → List ℕ → List ℕ
+assigned option value = option ++ codes "=" ++ value
+
+-- The words with each option that needs a value, and comes before `--`, as one word with its value.
+-- The option that waits for its value comes first, if there is one.
+abbrev pub joined : Option (List ℕ) → List (List ℕ) → List (List ℕ)
+joined None [] = []
+joined (Some option) [] = option ∷ []
+joined None (word ∷ words) = if bytes_eq word (codes "--") then word ∷ words
+    else (if needs_value word then joined (Some word) words else (word ∷ joined None words))
+joined (Some option) (value ∷ words) = assigned option value ∷ joined None words
+
+-- What follows a text in a word that begins with it.
+abbrev pub after_text : List ℕ → List ℕ → Option (List ℕ)
+after_text [] word = Some word
+after_text (byte ∷ text) [] = None
+after_text (byte ∷ text) (first ∷ word) = if byte == first then after_text text word else None
+
+-- ---- options and operands, of words that are joined
 
 -- Whether a word begins with a dash and has more bytes.
 abbrev pub is_dashed : List ℕ → Bool
@@ -56,10 +85,29 @@ operands_of words = filter (λ (word : List ℕ). not (is_dashed word)) (before_
 
 -- ---- what an option asks for, if it is about this
 
+-- The form that a format has.
+abbrev pub form_named : List ℕ → Option Form
+form_named format = if bytes_eq format (codes "plain") then Some Blocks
+    else (if bytes_eq format (codes "ranges") then Some Ranges else None)
+
+-- The layout that a format has.
+abbrev pub layout_named : List ℕ → Option Layout
+layout_named format = if bytes_eq format (codes "plain") then Some Lines
+    else (if bytes_eq format (codes "ranges") then Some Lines
+    else (if bytes_eq format (codes "nft") then Some Nft
+    else (if bytes_eq format (codes "ipset") then Some Ipset
+    else (if bytes_eq format (codes "json") then Some Json
+    else (if bytes_eq format (codes "csv") then Some Csv else None)))))
+
 -- The form of the addresses.
 abbrev pub form_asked : List ℕ → Option Form
 form_asked word = if bytes_eq word (codes "--blocks") then Some Blocks
-    else (if bytes_eq word (codes "--ranges") then Some Ranges else None)
+    else (if bytes_eq word (codes "--ranges") then Some Ranges
+    else option_and_then form_named (after_text (codes "--format=") word))
+
+-- What is around blocks or ranges.
+abbrev pub layout_asked : List ℕ → Option Layout
+layout_asked word = option_and_then layout_named (after_text (codes "--format=") word)
 
 -- The families of addresses.
 abbrev pub families_asked : List ℕ → Option Families
@@ -80,10 +128,25 @@ asks_fail_empty word = bytes_eq word (codes "--fail-empty")
 abbrev pub asks_skip_bad : List ℕ → Bool
 asks_skip_bad word = bytes_eq word (codes "--skip-bad")
 
+-- What is before each block or range.
+abbrev pub prefix_asked : List ℕ → Option (List ℕ)
+prefix_asked word = after_text (codes "--prefix=") word
+
+-- What is after each block or range.
+abbrev pub suffix_asked : List ℕ → Option (List ℕ)
+suffix_asked word = after_text (codes "--suffix=") word
+
+-- Whether a word begins as an option with its value does.
+abbrev pub is_assigned : List ℕ → Bool
+is_assigned word = is_some (after_text (codes "--format=") word)
+    || (is_some (prefix_asked word) || is_some (suffix_asked word))
+
 -- Whether an option is one that the program has.
 abbrev pub is_known : List ℕ → Bool
-is_known word = is_some (form_asked word) || (is_some (families_asked word)
-    || (is_some (question_asked word) || (asks_fail_empty word || asks_skip_bad word)))
+is_known word = is_some (form_asked word) || (is_some (layout_asked word)
+    || (is_some (families_asked word) || (is_some (question_asked word)
+    || (asks_fail_empty word || (asks_skip_bad word
+    || (is_some (prefix_asked word) || is_some (suffix_asked word)))))))
 
 -- ---- what a command line asks for. Of options about the same, the last one counts.
 
@@ -91,19 +154,65 @@ is_known word = is_some (form_asked word) || (is_some (families_asked word)
 abbrev pub first_unknown : List (List ℕ) → Option (List ℕ)
 first_unknown words = find (λ (word : List ℕ). not (is_known word)) (options_of words)
 
--- What options that are known ask for together: blocks and both families, if none says otherwise.
-abbrev pub asked_by : List (List ℕ) → Options
+-- What options ask for.
+pub record Choices : Type 0 where
+  pub form : Form
+  pub layout : Layout
+  pub families : Families
+  pub question : Option Question
+  pub fail_empty : Bool
+  pub skip_bad : Bool
+  pub prefix : List ℕ
+  pub suffix : List ℕ
+
+-- What options that are known ask for together: lines of blocks, and both families, if none says
+-- otherwise.
+abbrev pub asked_by : List (List ℕ) → Choices
 asked_by options = record {
   form = unwrap_or (last_or None (filter_map form_asked options)) Blocks;
+  layout = unwrap_or (last_or None (filter_map layout_asked options)) Lines;
   families = unwrap_or (last_or None (filter_map families_asked options)) Both;
   question = last_or None (filter_map question_asked options);
   fail_empty = list_any asks_fail_empty options;
   skip_bad = list_any asks_skip_bad options;
+  prefix = unwrap_or (last_or None (filter_map prefix_asked options)) [];
+  suffix = unwrap_or (last_or None (filter_map suffix_asked options)) [];
 }
 
 -- What the options of a command line ask for.
-abbrev pub options_asked : List (List ℕ) → Options
+abbrev pub options_asked : List (List ℕ) → Choices
 options_asked words = asked_by (options_of words)
+
+-- What is asked for with one more option.
+abbrev pub option_added : List ℕ → Choices → Choices
+option_added word choices = record {
+  form = unwrap_or (form_asked word) choices.form;
+  layout = unwrap_or (layout_asked word) choices.layout;
+  families = unwrap_or (families_asked word) choices.families;
+  question = option_or (question_asked word) choices.question;
+  fail_empty = choices.fail_empty || asks_fail_empty word;
+  skip_bad = choices.skip_bad || asks_skip_bad word;
+  prefix = unwrap_or (prefix_asked word) choices.prefix;
+  suffix = unwrap_or (suffix_asked word) choices.suffix;
+}
+
+-- What the options of the program ask for.
+abbrev pub choices_of : Options → Choices
+choices_of options = record {
+  form = options.form;
+  layout = options.layout;
+  families = options.families;
+  question = options.question;
+  fail_empty = options.fail_empty;
+  skip_bad = options.skip_bad;
+  prefix = options.prefix.now;
+  suffix = options.suffix.now;
+}
+
+-- Whether an option is known, and was added to others.
+pub record IsAdded (word : List ℕ) (old new : Options) : Type 0 where
+  pub known : IsTrue (is_known word)
+  pub added : choices_of new ≡ option_added word (choices_of old)
 
 -- ---- what operands ask for
 
@@ -139,23 +248,31 @@ IsOperation operands (AtLeast count) files =
     (word : List ℕ) × (operands ≡ codes "at-least" ∷ word ∷ files) × IsNumberOf word count
 IsOperation operands Complement files = operands ≡ codes "complement" ∷ files
 
-module _ (options : Options) (operands : List (List ℕ)) where
+-- Whether addresses are to be written so.
+pub record IsStyleOf (choices : Choices) (style : Style) : Type 0 where
+  pub form : style.form ≡ choices.form
+  pub layout : style.layout ≡ choices.layout
+  pub families : style.families ≡ choices.families
+  pub prefix : style.prefix.now ≡ choices.prefix
+  pub suffix : style.suffix.now ≡ choices.suffix
+
+module _ (choices : Choices) (operands : List (List ℕ)) where
   -- Whether the operands ask for this, beside what the options ask for. Each command needs a file.
   abbrev pub IsRequestWith : Request → Type 0
   IsRequestWith Help = ⊥
   IsRequestWith Version = ⊥
-  IsRequestWith (Combine it) = (it.form ≡ options.form) × (it.families ≡ options.families)
-      × (it.fail_empty ≡ options.fail_empty) × (it.sources.skip_bad ≡ options.skip_bad)
+  IsRequestWith (Combine it) = IsStyleOf choices it.style
+      × (it.fail_empty ≡ choices.fail_empty) × (it.sources.skip_bad ≡ choices.skip_bad)
       × IsOperation operands it.operation (file_names it.sources)
       × (1 ≤ length it.sources.files.now)
-  IsRequestWith (Count families sources) = (families ≡ options.families)
-      × (sources.skip_bad ≡ options.skip_bad) × (operands ≡ codes "count" ∷ file_names sources)
+  IsRequestWith (Count families sources) = (families ≡ choices.families)
+      × (sources.skip_bad ≡ choices.skip_bad) × (operands ≡ codes "count" ∷ file_names sources)
       × (1 ≤ length sources.files.now)
   IsRequestWith (Has address sources) = (word : List ℕ)
       × (operands ≡ codes "has" ∷ word ∷ file_names sources) × IsIpText word address
-      × (1 ≤ length sources.files.now) × (sources.skip_bad ≡ options.skip_bad)
-  IsRequestWith (Compare diff) = (diff.form ≡ options.form) × (diff.families ≡ options.families)
-      × (diff.skip_bad ≡ options.skip_bad)
+      × (1 ≤ length sources.files.now) × (sources.skip_bad ≡ choices.skip_bad)
+  IsRequestWith (Compare diff) = (diff.form ≡ choices.form) × (diff.families ≡ choices.families)
+      × (diff.skip_bad ≡ choices.skip_bad)
       × (operands ≡ codes "diff" ∷ diff.old.now ∷ diff.new.now ∷ [])
   IsRequestWith (Check files) =
       (operands ≡ codes "check" ∷ map (λ name. name.now) files.now) × (1 ≤ length files.now)
@@ -166,6 +283,8 @@ IsMisuseOfOperands operands NoCommand = operands ≡ []
 IsMisuseOfOperands operands (UnknownCommand word) = (others : List (List ℕ))
     × (operands ≡ word.now ∷ others) × (words_needed word.now ≡ None)
 IsMisuseOfOperands operands (UnknownOption word) = ⊥
+IsMisuseOfOperands operands (UnknownValue option value) = ⊥
+IsMisuseOfOperands operands (MissingValue option) = ⊥
 IsMisuseOfOperands operands (NoNumber word) = (files : List (List ℕ))
     × (operands ≡ codes "at-least" ∷ word.now ∷ files) × (1 ≤ length files) × ¬ IsNumber word.now
 IsMisuseOfOperands operands (NoAddress word) = (files : List (List ℕ))
@@ -190,16 +309,16 @@ is_input file = bytes_eq file (codes "-")
 abbrev pub repeats_input : List (List ℕ) → Bool
 repeats_input files = nat_lt 1 (count_by is_input files)
 
-module _ (options : Options) (operands : List (List ℕ)) where
+module _ (choices : Choices) (operands : List (List ℕ)) where
   -- Whether the operands ask for this, and name standard input at most once.
   pub record IsCommand (request : Request) : Type 0 where
-    pub asked : IsRequestWith options operands request
+    pub asked : IsRequestWith choices operands request
     pub one_input : IsFalse (repeats_input (files_of request))
 
   -- Whether the operands ask for something that reads standard input more than once.
   pub record RepeatsInput : Type 0 where
     pub request : Request
-    pub asked : IsRequestWith options operands request
+    pub asked : IsRequestWith choices operands request
     pub repeats : IsTrue (repeats_input (files_of request))
 
   -- Whether this is the first thing that is wrong with the operands. That they name standard input
@@ -217,29 +336,75 @@ Asks (Some Asked.Help) words request = request ≡ Help
 Asks (Some Asked.Version) words request = request ≡ Version
 Asks None words request = IsCommand (options_asked words) (operands_of words) request
 
--- Whether the words ask for this.
-abbrev pub IsRequest : List (List ℕ) → Request → Type 0
-IsRequest words request =
+-- The words with each option and its value as one.
+abbrev pub whole_words : List (List ℕ) → List (List ℕ)
+whole_words words = joined None words
+
+-- Whether the words ask for this, if each option is one word with its value.
+abbrev pub IsWholeRequest : List (List ℕ) → Request → Type 0
+IsWholeRequest words request =
     (first_unknown words ≡ None) × Asks (options_asked words).question words request
 
--- Whether this is the first thing that is wrong with the words, where options count first.
-abbrev pub IsMisuse : List (List ℕ) → Misuse → Type 0
-IsMisuse words (UnknownOption word) = first_unknown words ≡ Some word.now
-IsMisuse words misuse = (first_unknown words ≡ None)
+-- Whether this is the first thing that is wrong with the words, where options count first. Each
+-- option is one word with its value.
+abbrev pub IsWholeMisuse : List (List ℕ) → Misuse → Type 0
+IsWholeMisuse words (UnknownOption word) = first_unknown words ≡ Some word.now
+IsWholeMisuse words (UnknownValue option value) =
+    first_unknown words ≡ Some (assigned option.now value.now)
+IsWholeMisuse words (MissingValue option) =
+    (first_unknown words ≡ Some option.now) × IsTrue (needs_value option.now)
+IsWholeMisuse words misuse = (first_unknown words ≡ None)
     × ((options_asked words).question ≡ None)
     × IsMisuseOfCommand (options_asked words) (operands_of words) misuse
 
+-- Whether the words ask for this.
+abbrev pub IsRequest : List (List ℕ) → Request → Type 0
+IsRequest words request = IsWholeRequest (whole_words words) request
+
+-- Whether this is the first thing that is wrong with the words.
+abbrev pub IsMisuse : List (List ℕ) → Misuse → Type 0
+IsMisuse words misuse = IsWholeMisuse (whole_words words) misuse
+
 -- ---- arguments
+
+-- Whether the arguments have these words, whose options are all known. Each is one word with its
+-- value.
+pub record Have {A : Type 0} (words : List (List ℕ)) (arguments : Arguments A) : Type 0 where
+  pub known : first_unknown words ≡ None
+  pub options : choices_of arguments.options ≡ options_asked words
+  pub operands : map (λ word. word.now) arguments.operands.items ≡ operands_of words
+  pub ended : arguments.is_ended ≡ list_any is_mark words
 
 -- Whether the arguments are those of the words, whose options are all known.
 pub record AreArguments {A : Type 0} (words : List (List ℕ)) (arguments : Arguments A) : Type 0
   where
-    pub known : first_unknown words ≡ None
-    pub options : arguments.options ≡ options_asked words
-    pub operands : map (λ word. word.now) arguments.operands.items ≡ operands_of words
-    pub ended : arguments.is_ended ≡ list_any is_mark words
+    pub have : Have (whole_words words) arguments
 
--- Whether the fault is the first option that is unknown, or a failed allocation.
+-- How words go on after those that were read, if an option may wait for its value: joined, or as
+-- they are after `--`.
+abbrev pub goes_on : Bool → Option (List ℕ) → List (List ℕ) → List (List ℕ)
+goes_on ended waits words = if ended then words else joined waits words
+
+-- Whether the arguments have what was read of the words, but for an option that waits.
+pub record AreReadTo {A : Type 0} (waits : Option (List ℕ)) (words : List (List ℕ))
+    (arguments : Arguments A) : Type 0 where
+  pub read : List (List ℕ)
+  pub have : Have read arguments
+  pub goes : (after : List (List ℕ))
+      → whole_words (words ++ after) ≡ read ++ goes_on arguments.is_ended waits after
+  pub needs : IfSome waits (λ option. IsTrue (needs_value option))
+  pub unended : IsTrue arguments.is_ended → waits ≡ None
+
+-- Whether the arguments have what was read of the words.
+abbrev pub AreRead : {A : Type 0} → List (List ℕ) → Arguments A → Type 0
+AreRead words arguments =
+    AreReadTo (option_map (λ option. option.now) arguments.waits) words arguments
+
+-- Whether the arguments have what was read of the words, but for this option, which waits.
+abbrev pub AreReadBut : {A : Type 0} → List ℕ → List (List ℕ) → Arguments A → Type 0
+AreReadBut option words arguments = AreReadTo (Some option) words arguments
+
+-- Whether the fault is the first option that is unknown or lacks its value, or a failed allocation.
 abbrev pub IsWordFault : List (List ℕ) → Fault → Type 0
 IsWordFault words (BadLine file bad) = ⊥
 IsWordFault words (NotRead file error) = ⊥

@@ -9,13 +9,16 @@ use Rattle.ip_commands.specs.declared.commands.Outcome.TheVariants.{BadLines, Di
 use Rattle.ip_commands.specs.declared.fault.Fault.{Fault}
 use Rattle.ip_commands.specs.declared.fault.Fault.TheVariants.{BadLine, CommandLine, NoMemory, NotRead, NotWritten}
 use Rattle.ip_commands.specs.declared.fault.Misuse.{Misuse}
-use Rattle.ip_commands.specs.declared.fault.Misuse.TheVariants.{ExtraWord, MissingAddress, MissingFile, MissingNumber, NoAddress, NoCommand, NoNumber, NotText, RepeatedInput, UnknownCommand, UnknownOption}
+use Rattle.ip_commands.specs.declared.fault.Misuse.TheVariants.{ExtraWord, MissingAddress, MissingFile, MissingNumber, MissingValue, NoAddress, NoCommand, NoNumber, NotText, RepeatedInput, UnknownCommand, UnknownOption, UnknownValue}
 
 -- What is wrong with a command line, in words.
 abbrev pub misuse_text : Misuse → List ℕ
 misuse_text NoCommand = codes "missing command"
 misuse_text (UnknownCommand word) = codes "unknown command: " ++ word.now
 misuse_text (UnknownOption word) = codes "unknown option: " ++ word.now
+misuse_text (UnknownValue option value) =
+    codes "unknown option: " ++ option.now ++ codes "=" ++ value.now
+misuse_text (MissingValue option) = codes "missing value after " ++ option.now
 misuse_text (NoNumber word) = codes "not a number of lists: " ++ word.now
 misuse_text (NoAddress word) = codes "not an address: " ++ word.now
 misuse_text (ExtraWord word) = codes "a word too many: " ++ word.now

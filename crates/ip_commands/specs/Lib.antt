@@ -2,9 +2,11 @@ pub mod Answer
 pub mod CommandLine
 pub mod Fault
 pub mod Files
+pub mod Layout
 pub mod Page
 pub mod Program
 pub mod ReadBack
 pub mod Request
+pub mod Row
 pub mod Selection
 pub mod Text

@@ -7,7 +7,3 @@ pub record Lays (old new : Option (List ℕ)) (waited waits text : List ℕ) : T
   pub front : List ℕ
   pub parts : waited ++ text ≡ front ++ waits
   pub written : Appends old new front
-
--- Whether something waits after a text was added, unless the text is empty.
-abbrev pub LeavesSome : List ℕ → List ℕ → Type 0
-LeavesSome waits text = waits ≡ [] → text ≡ []

@@ -33,9 +33,9 @@ pub record ReadsAsCombined (bytes : List ℕ → Option (List ℕ)) (combination
   pub v6 : Selection
   pub reads : IsListOf text v4 v6
   pub v4_selected : Agree (2 ^ 32) v4
-      (written_v4 combination.families (selected_by combination.operation (v4_of lists)))
+      (written_v4 combination.style.families (selected_by combination.operation (v4_of lists)))
   pub v6_selected : Agree (2 ^ 128) v6
-      (written_v6 combination.families (selected_by combination.operation (v6_of lists)))
+      (written_v6 combination.style.families (selected_by combination.operation (v6_of lists)))
 
 -- Whether the bytes of each of these files are known.
 abbrev pub AreKnown : (List ℕ → Option (List ℕ)) → List (List ℕ) → Type 0

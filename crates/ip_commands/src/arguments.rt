@@ -7,21 +7,25 @@ ghost use Rattle.std.specs.Prelude.{
   [],
   ◌∷◌,
   ◌++◌,
-  ◌||◌,
   IfErr,
   IfOk,
+  IfSome,
   IsFalse,
   IsTrue,
   List,
+  MatchOption,
   MatchResult,
+  None,
   OnOk,
+  Some,
   codes,
   map,
-  unwrap_or,
 };
-ghost use Rattle.std.specs.Option.{option_or};
 ghost use Rattle.ip_commands.specs.CommandLine.{
   AreArguments,
+  AreRead,
+  AreReadBut,
+  IsAdded,
   IsCommand,
   IsMisuse,
   IsMisuseOfCommand,
@@ -30,19 +34,19 @@ ghost use Rattle.ip_commands.specs.CommandLine.{
   IsRequest,
   IsRequestWith,
   IsWordFault,
-  asks_fail_empty,
-  asks_skip_bad,
-  families_asked,
-  form_asked,
+  after_text,
+  choices_of,
+  assigned,
+  is_assigned,
   is_dashed,
   is_known,
-  question_asked,
+  needs_value,
   repeats_input,
 };
 ghost use Rattle.ip_commands.specs.Request.{files_of};
 
 use crate::fault::{Fault, Misuse};
-use crate::request::{Combination, Diff, Families, Form, Request, Sources};
+use crate::request::{Combination, Diff, Families, Form, Layout, Request, Sources, Style};
 use ip_sets::Operation;
 use std::alloc::Allocator;
 use std::convert::AsStr;
@@ -53,21 +57,27 @@ use std::net::IpAddr;
 pub struct Arguments<'a, A: Allocator> {
     // The words that are not options.
     operands: Vec<&'a str, A>,
-    options: Options,
+    options: Options<'a>,
+    // The option whose value is the next word.
+    waits: Option<&'a str>,
     // Whether `--` came. No word after it is an option.
     is_ended: bool,
 }
 
 // What the options ask for.
 #[derive(Clone, Copy)]
-struct Options {
+struct Options<'a> {
     form: Form,
+    layout: Layout,
     families: Families,
     question: Option<Question>,
     // Whether an empty result is a failure.
     fail_empty: bool,
     // Whether bad lines are passed over.
     skip_bad: bool,
+    // What is written before and after each block or range.
+    prefix: &'a str,
+    suffix: &'a str,
 }
 
 // What is asked about the program itself.
@@ -81,9 +91,10 @@ impl<'a, A: Allocator> Arguments<'a, A> {
     /// Returns the arguments of the words after the program's name.
     ///
     /// A word that begins with a dash is an option, and may be anywhere. But `-` is an operand, and
-    /// so is each word after `--`. Of options that exclude each other, the last one counts.
+    /// so is each word after `--`. The value of an option is the next word, or follows `=` in the same
+    /// word. Of options that exclude each other, the last one counts.
     ///
-    /// The error is the first option that is unknown, or a failed allocation.
+    /// The error is the first option that is unknown or lacks its value, or a failed allocation.
     pub fn new<S: AsStr>(alloc: A, words: &'a [S]) -> Result<Self, Fault<'a>>
         ensures arguments { IfOk result (AreArguments (map S.text words.now)) }
         ensures fault { IfErr result (IsWordFault (map S.text words.now)) }
@@ -92,35 +103,82 @@ impl<'a, A: Allocator> Arguments<'a, A> {
             operands: Vec::new(alloc),
             options: Options {
                 form: Form::Blocks,
+                layout: Layout::Lines,
                 families: Families::Both,
                 question: None,
                 fail_empty: false,
                 skip_bad: false,
+                prefix: "",
+                suffix: "",
             },
+            waits: None,
             is_ended: false,
         };
         for word in words {
             arguments.add(word.as_str())?;
+        }
+        if let Some(option) = arguments.waits {
+            return Err(Fault::CommandLine(Misuse::MissingValue(option)));
         }
         Ok(arguments)
     }
 
     // Adds the next word.
     fn add(&mut self, word: &'a str) -> Result<(), Fault<'a>>
-        ensures arguments { (words : List (List ℕ)) → AreArguments words self.old
-            → OnOk result (AreArguments (words ++ word.now ∷ []) self.new) }
-        ensures fault { (before after : List (List ℕ)) → AreArguments before self.old
+        requires { IfSome self.old.waits (λ option. IsTrue (needs_value option.now)) }
+        ensures arguments { (words : List (List ℕ)) → AreRead words self.old
+            → OnOk result (AreRead (words ++ word.now ∷ []) self.new) }
+        ensures fault { (before after : List (List ℕ)) → AreRead before self.old
             → IfErr result (IsWordFault (before ++ word.now ∷ after)) }
     {
+        if let Some(option) = self.waits.take() {
+            return self.add_value(option, word);
+        }
         if self.is_ended || !is_dashed(word) {
             self.operands.push(word)?;
             return Ok(());
         }
+        self.add_option(word)
+    }
+
+    // Adds the next word, which is an option or `--`.
+    fn add_option(&mut self, word: &'a str) -> Result<(), Fault<'a>>
+        requires waits { self.old.waits ≡ None }
+        requires ended { IsFalse self.old.is_ended }
+        requires dashed { IsTrue (is_dashed word.now) }
+        ensures arguments { (words : List (List ℕ)) → AreRead words self.old
+            → OnOk result (AreRead (words ++ word.now ∷ []) self.new) }
+        ensures fault { (before after : List (List ℕ)) → AreRead before self.old
+            → IfErr result (IsWordFault (before ++ word.now ∷ after)) }
+    {
         if word == "--" {
             self.is_ended = true;
             return Ok(());
         }
-        self.options = with_option(self.options, word)?;
+        if needs_value(word) {
+            self.waits = Some(word);
+            return Ok(());
+        }
+        let Some(options) = with_option(self.options, word) else {
+            return Err(Fault::CommandLine(Misuse::UnknownOption(word)));
+        };
+        self.options = options;
+        Ok(())
+    }
+
+    // Adds the next word, which is the value of an option.
+    fn add_value(&mut self, option: &'a str, value: &'a str) -> Result<(), Fault<'a>>
+        requires waits { self.old.waits ≡ None }
+        requires needs { IsTrue (needs_value option.now) }
+        ensures arguments { (words : List (List ℕ)) → AreReadBut option.now words self.old
+            → OnOk result (AreRead (words ++ value.now ∷ []) self.new) }
+        ensures fault { (before after : List (List ℕ)) → AreReadBut option.now before self.old
+            → IfErr result (IsWordFault (before ++ value.now ∷ after)) }
+    {
+        let Some(options) = with_value(self.options, option, value) else {
+            return Err(Fault::CommandLine(Misuse::UnknownValue { option, value }));
+        };
+        self.options = options;
         Ok(())
     }
 
@@ -145,20 +203,46 @@ fn is_dashed(word: &str) -> bool
     matches!(word.as_bytes(), [b'-', _, ..])
 }
 
-// Returns the options with one more.
-fn with_option<'a>(options: Options, word: &'a str) -> Result<Options, Misuse<'a>>
-    ensures form { IfOk result (λ new. new.form ≡ unwrap_or (form_asked word.now) options.form) }
-    ensures families { IfOk result (λ new.
-        new.families ≡ unwrap_or (families_asked word.now) options.families) }
-    ensures question { IfOk result (λ new.
-        new.question ≡ option_or (question_asked word.now) options.question) }
-    ensures fail_empty { IfOk result (λ new.
-        new.fail_empty ≡ (options.fail_empty || asks_fail_empty word.now)) }
-    ensures skip_bad { IfOk result (λ new.
-        new.skip_bad ≡ (options.skip_bad || asks_skip_bad word.now)) }
-    ensures known { IfOk result (λ new. IsTrue (is_known word.now)) }
-    ensures unknown { IfErr result (λ misuse. IsFalse (is_known word.now)
-        × (misuse ≡ Misuse.UnknownOption word.entry)) }
+// Returns whether the value of an option is the next word.
+fn needs_value(word: &str) -> bool
+    ensures { result ≡ needs_value word.now }
+{
+    match word {
+        "--format" | "--prefix" | "--suffix" => true,
+        _ => false,
+    }
+}
+
+// Returns the options with one more, which is one word, if it is known.
+fn with_option<'a>(options: Options<'a>, word: &'a str) -> Option<Options<'a>>
+    ensures { MatchOption result (IsFalse (is_known word.now))
+        (λ new. IsAdded word.now options.entry new) }
+{
+    if let Some(value) = after_text("--format=", word) {
+        return with_value(options, "--format", value);
+    }
+    if let Some(value) = after_text("--prefix=", word) {
+        return with_value(options, "--prefix", value);
+    }
+    if let Some(value) = after_text("--suffix=", word) {
+        return with_value(options, "--suffix", value);
+    }
+    with_flag(options, word)
+}
+
+// Returns what follows a text in a word that begins with it.
+fn after_text<'a>(text: &str, word: &'a str) -> Option<&'a str>
+    ensures { MatchOption result (after_text text.now word.now ≡ None)
+        (λ rest. after_text text.now word.now ≡ Some rest.now) }
+{
+    word.strip_prefix(text)
+}
+
+// Returns the options with one more, which has no value, if it is known.
+fn with_flag<'a>(options: Options<'a>, word: &'a str) -> Option<Options<'a>>
+    requires { IsFalse (is_assigned word.now) }
+    ensures { MatchOption result (IsFalse (is_known word.now))
+        (λ new. IsAdded word.now options.entry new) }
 {
     let mut options = options;
     match word {
@@ -171,16 +255,50 @@ fn with_option<'a>(options: Options, word: &'a str) -> Result<Options, Misuse<'a
         "--version" => options.question = Some(Question::Version),
         "--fail-empty" => options.fail_empty = true,
         "--skip-bad" => options.skip_bad = true,
-        _ => return Err(Misuse::UnknownOption(word)),
+        _ => return None,
     }
-    Ok(options)
+    Some(options)
+}
+
+// Returns the options with one more and its value, if the option has such a value.
+fn with_value<'a>(options: Options<'a>, option: &str, value: &'a str) -> Option<Options<'a>>
+    requires { IsTrue (needs_value option.now) }
+    ensures { MatchOption result (IsFalse (is_known (assigned option.now value.now)))
+        (λ new. IsAdded (assigned option.now value.now) options.entry new) }
+{
+    let mut options = options;
+    match option {
+        "--prefix" => options.prefix = value,
+        "--suffix" => options.suffix = value,
+        _ => return with_format(options, value),
+    }
+    Some(options)
+}
+
+// Returns the options with a format, if it is known.
+fn with_format<'a>(options: Options<'a>, format: &str) -> Option<Options<'a>>
+    ensures { MatchOption result (IsFalse (is_known (assigned (codes "--format") format.now)))
+        (λ new. IsAdded (assigned (codes "--format") format.now) options.entry new) }
+{
+    let mut options = options;
+    options.layout = Layout::Lines;
+    match format {
+        "plain" => options.form = Form::Blocks,
+        "ranges" => options.form = Form::Ranges,
+        "nft" => options.layout = Layout::Nft,
+        "ipset" => options.layout = Layout::Ipset,
+        "json" => options.layout = Layout::Json,
+        "csv" => options.layout = Layout::Csv,
+        _ => return None,
+    }
+    Some(options)
 }
 
 // Returns what a command and the words after it ask for. Standard input can be read only once.
-fn command_of<'a>(options: Options, operands: &'a [&'a str]) -> Result<Request<'a>, Misuse<'a>>
+fn command_of<'a>(options: Options<'a>, operands: &'a [&'a str]) -> Result<Request<'a>, Misuse<'a>>
     ensures { MatchResult result
-        (IsCommand options (map (λ word. word.now) operands.now))
-        (IsMisuseOfCommand options (map (λ word. word.now) operands.now)) }
+        (IsCommand (choices_of options.entry) (map (λ word. word.now) operands.now))
+        (IsMisuseOfCommand (choices_of options.entry) (map (λ word. word.now) operands.now)) }
 {
     let request = request_of(options, operands)?;
     if rereads_input(request) {
@@ -212,9 +330,9 @@ fn repeats_input(files: &[&str]) -> bool
 }
 
 // Returns what a command and the words after it ask for, however often it reads standard input.
-fn request_of<'a>(options: Options, operands: &'a [&'a str]) -> Result<Request<'a>, Misuse<'a>>
+fn request_of<'a>(options: Options<'a>, operands: &'a [&'a str]) -> Result<Request<'a>, Misuse<'a>>
     ensures { MatchResult result
-        (IsRequestWith options (map (λ word. word.now) operands.now))
+        (IsRequestWith (choices_of options.entry) (map (λ word. word.now) operands.now))
         (IsMisuseOfOperands (map (λ word. word.now) operands.now)) }
 {
     let [command, words @ ..] = operands else {
@@ -237,13 +355,13 @@ fn request_of<'a>(options: Options, operands: &'a [&'a str]) -> Result<Request<'
 
 // Returns what an operation on some files asks for.
 fn combination<'a>(
-    options: Options,
+    options: Options<'a>,
     operation: Operation,
     files: &'a [&'a str],
 ) -> Result<Request<'a>, Misuse<'a>>
     ensures request { (operands : List (List ℕ))
         → IsOperation operands operation (map (λ name. name.now) files.now)
-        → IfOk result (IsRequestWith options operands) }
+        → IfOk result (IsRequestWith (choices_of options.entry) operands) }
     ensures misuse { IfErr result (λ misuse. (misuse ≡ Misuse.MissingFile)
         × (files.now ≡ [])) }
 {
@@ -252,8 +370,13 @@ fn combination<'a>(
     }
     Ok(Request::Combine(Combination {
         operation,
-        form: options.form,
-        families: options.families,
+        style: Style {
+            form: options.form,
+            layout: options.layout,
+            families: options.families,
+            prefix: options.prefix,
+            suffix: options.suffix,
+        },
         fail_empty: options.fail_empty,
         sources: Sources {
             files,
@@ -263,8 +386,8 @@ fn combination<'a>(
 }
 
 // Returns what `except` and the words after it ask for.
-fn except<'a>(options: Options, files: &'a [&'a str]) -> Result<Request<'a>, Misuse<'a>>
-    ensures request { IfOk result (IsRequestWith options
+fn except<'a>(options: Options<'a>, files: &'a [&'a str]) -> Result<Request<'a>, Misuse<'a>>
+    ensures request { IfOk result (IsRequestWith (choices_of options.entry)
         (codes "except" ∷ map (λ name. name.now) files.now)) }
     ensures misuse { IfErr result (IsMisuseOfOperands
         (codes "except" ∷ map (λ name. name.now) files.now)) }
@@ -276,8 +399,8 @@ fn except<'a>(options: Options, files: &'a [&'a str]) -> Result<Request<'a>, Mis
 }
 
 // Returns what `at-least` and the words after it ask for.
-fn at_least<'a>(options: Options, words: &'a [&'a str]) -> Result<Request<'a>, Misuse<'a>>
-    ensures request { IfOk result (IsRequestWith options
+fn at_least<'a>(options: Options<'a>, words: &'a [&'a str]) -> Result<Request<'a>, Misuse<'a>>
+    ensures request { IfOk result (IsRequestWith (choices_of options.entry)
         (codes "at-least" ∷ map (λ word. word.now) words.now)) }
     ensures misuse { IfErr result (IsMisuseOfOperands
         (codes "at-least" ∷ map (λ word. word.now) words.now)) }
@@ -295,8 +418,8 @@ fn at_least<'a>(options: Options, words: &'a [&'a str]) -> Result<Request<'a>, M
 }
 
 // Returns what `count` and the words after it ask for.
-fn count<'a>(options: Options, files: &'a [&'a str]) -> Result<Request<'a>, Misuse<'a>>
-    ensures request { IfOk result (IsRequestWith options
+fn count<'a>(options: Options<'a>, files: &'a [&'a str]) -> Result<Request<'a>, Misuse<'a>>
+    ensures request { IfOk result (IsRequestWith (choices_of options.entry)
         (codes "count" ∷ map (λ name. name.now) files.now)) }
     ensures misuse { IfErr result (IsMisuseOfOperands
         (codes "count" ∷ map (λ name. name.now) files.now)) }
@@ -314,8 +437,8 @@ fn count<'a>(options: Options, files: &'a [&'a str]) -> Result<Request<'a>, Misu
 }
 
 // Returns what `has` and the words after it ask for.
-fn has<'a>(options: Options, words: &'a [&'a str]) -> Result<Request<'a>, Misuse<'a>>
-    ensures request { IfOk result (IsRequestWith options
+fn has<'a>(options: Options<'a>, words: &'a [&'a str]) -> Result<Request<'a>, Misuse<'a>>
+    ensures request { IfOk result (IsRequestWith (choices_of options.entry)
         (codes "has" ∷ map (λ word. word.now) words.now)) }
     ensures misuse { IfErr result (IsMisuseOfOperands
         (codes "has" ∷ map (λ word. word.now) words.now)) }
@@ -339,8 +462,8 @@ fn has<'a>(options: Options, words: &'a [&'a str]) -> Result<Request<'a>, Misuse
 }
 
 // Returns what `check` and the words after it ask for.
-fn check<'a>(options: Options, files: &'a [&'a str]) -> Result<Request<'a>, Misuse<'a>>
-    ensures request { IfOk result (IsRequestWith options
+fn check<'a>(options: Options<'a>, files: &'a [&'a str]) -> Result<Request<'a>, Misuse<'a>>
+    ensures request { IfOk result (IsRequestWith (choices_of options.entry)
         (codes "check" ∷ map (λ name. name.now) files.now)) }
     ensures misuse { IfErr result (IsMisuseOfOperands
         (codes "check" ∷ map (λ name. name.now) files.now)) }
@@ -352,8 +475,8 @@ fn check<'a>(options: Options, files: &'a [&'a str]) -> Result<Request<'a>, Misu
 }
 
 // Returns what `diff` and the words after it ask for.
-fn diff<'a>(options: Options, words: &'a [&'a str]) -> Result<Request<'a>, Misuse<'a>>
-    ensures request { IfOk result (IsRequestWith options
+fn diff<'a>(options: Options<'a>, words: &'a [&'a str]) -> Result<Request<'a>, Misuse<'a>>
+    ensures request { IfOk result (IsRequestWith (choices_of options.entry)
         (codes "diff" ∷ map (λ word. word.now) words.now)) }
     ensures misuse { IfErr result (IsMisuseOfOperands
         (codes "diff" ∷ map (λ word. word.now) words.now)) }

@@ -76,6 +76,7 @@ usage: ip_lists union FILE..          addresses in at least one list
        ip_lists diff OLD NEW          blocks to take out of OLD (-) and to put in (+)
        ip_lists check FILE..          the bad lines of the lists
 options: --blocks (the default), --ranges, -4, -6, --fail-empty, --skip-bad,
+         --format plain|ranges|nft|ipset|json|csv, --prefix TEXT, --suffix TEXT,
          -h, --help, --version
 ";
 

@@ -29,6 +29,10 @@ pub enum Misuse<'a> {
     UnknownCommand(&'a str),
     /// A word is not a known option.
     UnknownOption(&'a str),
+    /// A value that an option does not have.
+    UnknownValue { option: &'a str, value: &'a str },
+    /// The last word is an option that needs a value.
+    MissingValue(&'a str),
     /// The word after `at-least` is not a number from 0 to 2^64 - 1.
     NoNumber(&'a str),
     /// The word after `has` is not an address.
@@ -55,6 +59,10 @@ impl fmt::Display for Misuse<'_> {
             Misuse::NoCommand => write!(f, "missing command"),
             Misuse::UnknownCommand(word) => write!(f, "unknown command: {word}"),
             Misuse::UnknownOption(word) => write!(f, "unknown option: {word}"),
+            Misuse::UnknownValue { option, value } => {
+                write!(f, "unknown option: {option}={value}")
+            }
+            Misuse::MissingValue(option) => write!(f, "missing value after {option}"),
             Misuse::NoNumber(word) => write!(f, "not a number of lists: {word}"),
             Misuse::NoAddress(word) => write!(f, "not an address: {word}"),
             Misuse::ExtraWord(word) => write!(f, "a word too many: {word}"),

@@ -7,6 +7,7 @@ ghost use Rattle.range_set_blaze.specs.Selection.{Agree, difference, union};
 ghost use Rattle.ip_sets.specs.List.{IsListOf};
 ghost use Rattle.ip_commands.specs.Answer.{Answers, IsCombined, IsCounted, IsDiffText, IsFound};
 ghost use Rattle.ip_commands.specs.Files.{Selected, file_names};
+ghost use Rattle.ip_commands.specs.Layout.{IsPlain};
 ghost use Rattle.ip_commands.specs.ReadBack.{AreKnown, ReadsAsCombined};
 ghost use Rattle.ip_commands.specs.Text.{IsListText};
 ghost use Rattle.ip_commands.specs.declared.commands.Outcome.{Outcome};
@@ -31,15 +32,16 @@ pub fn output_is_written_again()
         → IsListText form other4 other6 other → other ≡ text }
 {}
 
-/// What `run` writes for an operation is a list that selects what the operation selects, in each
-/// family that is written.
+/// What `run` writes for an operation, if it has lines and nothing around them, is a list. It selects
+/// what the operation selects, in each family that is written.
 pub fn answer_reads_back()
     ensures text { (bytes : List ℕ → Option (List ℕ)) (combination : Combination) (text : List ℕ)
-        → IsCombined bytes combination text → ReadsAsCombined bytes combination text }
+        → IsPlain combination.style → IsCombined bytes combination text
+        → ReadsAsCombined bytes combination text }
 
     // A writer that held nothing holds the answer, and nothing else.
     ensures whole { (bytes : List ℕ → Option (List ℕ)) (combination : Combination)
-        (outcome : Outcome) (text : List ℕ)
+        (outcome : Outcome) (text : List ℕ) → IsPlain combination.style
         → Answers bytes (Combine combination) outcome (Some []) (Some text)
         → ReadsAsCombined bytes combination text }
 {}

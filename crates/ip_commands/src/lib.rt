@@ -6,6 +6,7 @@ mod commands;
 mod fault;
 mod inputs;
 mod laws;
+mod layout;
 mod page;
 mod process;
 mod program;
@@ -23,5 +24,5 @@ pub use crate::laws::{
 };
 pub use crate::process::start_from_env;
 pub use crate::program::{finish, start};
-pub use crate::request::{Combination, Diff, Families, Form, Request, Sources};
+pub use crate::request::{Combination, Diff, Families, Form, Layout, Request, Sources, Style};
 pub use crate::system::{Source, SystemInputs};

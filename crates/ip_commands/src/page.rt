@@ -39,6 +39,34 @@ pub(crate) fn make_room<W: Write>(output: &mut W, page: &mut Page) -> io::Result
     Ok(())
 }
 
+/// Adds text of any length to a page, or writes it after what waits there.
+#[inline(always)]
+pub(crate) fn put<W: Write>(output: &mut W, page: &mut Page, text: &[u8]) -> io::Result<()>
+    ensures { OnOk result (Lays (W.contents output.old) (W.contents output.new)
+        page.old.items page.new.items text.now) }
+{
+    if text.is_empty() {
+        return Ok(());
+    }
+    put_some(output, page, text)
+}
+
+// Adds text to a page, or writes it after what waits there if it is longer than a page.
+fn put_some<W: Write>(output: &mut W, page: &mut Page, text: &[u8]) -> io::Result<()>
+    ensures { OnOk result (Lays (W.contents output.old) (W.contents output.new)
+        page.old.items page.new.items text.now) }
+{
+    if text.len() > page.remaining_capacity() {
+        send(output, page)?;
+        if text.len() > PAGE {
+            output.write_all(text)?;
+            return Ok(());
+        }
+    }
+    lay(page, text);
+    Ok(())
+}
+
 /// Writes the text that waits on a page.
 pub(crate) fn send<W: Write>(output: &mut W, page: &mut Page) -> io::Result<()>
     ensures written { OnOk result

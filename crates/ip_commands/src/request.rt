@@ -12,6 +12,21 @@ pub enum Form {
     Ranges,
 }
 
+/// What is written around the blocks or ranges of an answer.
+#[derive(Clone, Copy, Debug, PartialEq, Eq)]
+pub enum Layout {
+    /// Each is a line.
+    Lines,
+    /// Commands for `nft -f`, which fill a set of each family.
+    Nft,
+    /// Commands for `ipset restore`, which fill a set of each family.
+    Ipset,
+    /// A JSON object with an array of each family.
+    Json,
+    /// A table in CSV, with the first and the last address of each range.
+    Csv,
+}
+
 /// Which families of addresses are written.
 #[derive(Clone, Copy, Debug, PartialEq, Eq)]
 pub enum Families {
@@ -32,15 +47,28 @@ pub struct Sources<'a> {
     pub skip_bad: bool,
 }
 
+/// How the addresses of an answer are written.
+#[derive(Clone, Copy, Debug)]
+pub struct Style<'a> {
+    /// As blocks or as ranges.
+    pub form: Form,
+    /// What is around these.
+    pub layout: Layout,
+    /// Which addresses are written.
+    pub families: Families,
+    /// What is before each block or range.
+    pub prefix: &'a str,
+    /// What is after each block or range.
+    pub suffix: &'a str,
+}
+
 /// What an operation selects from the lists of some files.
 #[derive(Clone, Copy, Debug)]
 pub struct Combination<'a> {
     /// The operation.
     pub operation: Operation,
     /// How the addresses are written.
-    pub form: Form,
-    /// Which of them are written.
-    pub families: Families,
+    pub style: Style<'a>,
     /// Whether it is a failure if there are none.
     pub fail_empty: bool,
     /// The files.

@@ -3,6 +3,7 @@
 mod answers;
 mod ends;
 mod faults;
+mod formats;
 mod known;
 mod laws;
 mod many_parts;

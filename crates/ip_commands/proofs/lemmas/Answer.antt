@@ -3,11 +3,11 @@ use Rattle.std.proofs.Common.{◌≡◌, ℕ, ◌^◌, Bool, List, [], ◌∷◌
 use Rattle.std.specs.Io.KnownBytes.{Appends}
 use Rattle.range_set_blaze.specs.Runs.{members}
 use Rattle.range_set_blaze.specs.Selection.{Agree}
-use Rattle.ip_sets.specs.List.{has_bytes}
 use Rattle.ip_sets.specs.Operation.{selected_by}
 use Rattle.ip_sets.specs.declared.list.AddressList.{AddressList}
 use Rattle.ip_commands.specs.Answer.{IsCombined, combined_outcome, v4_of, v6_of}
 use Rattle.ip_commands.specs.Files.{AreFilesOf, file_names, selected}
+use Rattle.ip_commands.specs.Layout.{writes_some}
 use Rattle.ip_commands.specs.Selection.{WritesSelected}
 use Rattle.ip_commands.specs.declared.commands.Outcome.{Outcome}
 use Rattle.ip_commands.specs.declared.request.Combination.{Combination}
@@ -30,13 +30,13 @@ pub combined : {A : Type 0} (bytes : List ℕ → Option (List ℕ)) (combinatio
     (outcome : Outcome) → given ≡ lists
     → AreFilesOf bytes combination.sources.skip_bad (file_names combination.sources)
     (map selected lists)
-    → WritesSelected some [] combination.form combination.families
+    → WritesSelected some combination.style
     (selected_by combination.operation (map members (map (λ list. list.v4) given)))
     (selected_by combination.operation (map members (map (λ list. list.v6) given))) old new
-    → ((text : List ℕ) → some ≡ has_bytes text
-    → outcome ≡ combined_outcome combination.fail_empty text)
-    → (text : List ℕ) × IsCombined bytes combination text
-    × (outcome ≡ combined_outcome combination.fail_empty text) × Appends old new text
+    → outcome ≡ combined_outcome combination.fail_empty some
+    → (text : List ℕ) × (made : IsCombined bytes combination text)
+    × (outcome ≡ combined_outcome combination.fail_empty
+    (writes_some combination.style.families made.v4 made.v6)) × Appends old new text
 combined bytes combination lists given old new some outcome same files written ends = (
   written.text,
   record {
@@ -52,6 +52,6 @@ combined bytes combination lists given old new some outcome same files written e
         (ap (λ each. map members (map (λ list. list.v6) each)) same ∙ same-v6 lists) written.v6_made;
     whole = written.whole;
   },
-  ends written.text written.has_line,
+  ends ∙ ap (combined_outcome combination.fail_empty) written.has_address,
   written.written,
 )

@@ -1,5 +1,5 @@
 -- Command lines, word by word.
-use Rattle.std.proofs.Common.{◌⊎◌, inl, inr, ◌≡◌, ◌≢◌, ◌∙◌, ℕ, ◌-◌, ◌<◌, ◌≤◌, suc, Bool, true, false, not, ◌||◌, cond, Bor, List, [], ◌∷◌, ◌++◌, length, map, take, drop, Option, Some, None, refl, sym, ap, subst, append_assoc, true≢false, arith, lit<}
+use Rattle.std.proofs.Common.{◌⊎◌, inl, inr, ◌≡◌, ◌≢◌, ◌∙◌, ℕ, ◌-◌, ◌<◌, ◌≤◌, suc, IsTrue, Bool, true, false, not, ◌||◌, cond, Bor, List, [], ◌∷◌, ◌++◌, length, map, take, drop, Option, Some, None, refl, sym, ap, subst, append_assoc, true≢false, arith, lit<}
 use Rattle.std.proofs.lemmas.Bool.Decides.{nat_tests}
 use Rattle.std.proofs.lemmas.List.{append-nil, length-map, take_all}
 use Rattle.std.proofs.lemmas.List.Elements.{filter-append}
@@ -7,17 +7,20 @@ use Rattle.std.proofs.lemmas.List.Folds.{find-append}
 use Rattle.std.proofs.lemmas.Slice.Eq.{bytes_eq-Decides}
 use Rattle.std.specs.Bool.{Decides}
 use Rattle.std.specs.List.{filter, filter_map, find, last_or, list_any}
-use Rattle.std.specs.Option.{IsSomeAnd, option_or}
-use Rattle.std.specs.Prelude.{Err, IfErr, IfOk, IsErrAnd, MatchResult, Ok, Result, ◌==◌, bytes_eq, codes, if◌then◌else◌, slice_index_or, unwrap_or}
-use Rattle.ip_commands.specs.CommandLine.{AreArguments, IsCommand, IsMisuseOfCommand, IsMisuseOfOperands, IsRequestWith, after_mark, asked_by, asks_fail_empty, asks_skip_bad, before_mark, families_asked, first_unknown, form_asked, is_dashed, is_known, is_mark, operands_of, options_of, question_asked, words_needed}
+use Rattle.std.specs.Option.{IsSomeAnd, option_map, option_or}
+use Rattle.std.specs.Str.Pattern.{FindsTextPrefix, StripsPrefix}
+use Rattle.std.specs.Prelude.{Err, IfErr, IfOk, IsErrAnd, MatchOption, MatchResult, Ok, Result, ◌==◌, bytes_eq, codes, if◌then◌else◌, slice_index_or, unwrap_or}
+use Rattle.ip_commands.specs.CommandLine.{AreArguments, AreRead, AreReadTo, Choices, Have, IsAdded, IsCommand, IsMisuseOfCommand, IsMisuseOfOperands, IsRequestWith, after_mark, after_text, asked_by, choices_of, asks_fail_empty, asks_skip_bad, assigned, before_mark, families_asked, first_unknown, form_asked, goes_on, is_assigned, is_dashed, is_known, is_mark, joined, layout_asked, needs_value, operands_of, option_added, options_of, prefix_asked, question_asked, suffix_asked, whole_words, words_needed}
 use Rattle.ip_commands.specs.declared.arguments.Arguments.{Arguments}
 use Rattle.ip_commands.specs.declared.arguments.Options.{Options}
 use Rattle.ip_commands.specs.declared.fault.Misuse.{Misuse}
-use Rattle.ip_commands.specs.declared.fault.Misuse.TheVariants.{ExtraWord, MissingAddress, MissingFile, MissingNumber, NoAddress, NoCommand, NoNumber, NotText, RepeatedInput, UnknownCommand, UnknownOption}
+use Rattle.ip_commands.specs.declared.fault.Misuse.TheVariants.{ExtraWord, MissingAddress, MissingFile, MissingNumber, MissingValue, NoAddress, NoCommand, NoNumber, NotText, RepeatedInput, UnknownCommand, UnknownOption, UnknownValue}
 use Rattle.ip_commands.specs.declared.request.Families.{Families}
 use Rattle.ip_commands.specs.declared.request.Families.TheVariants.{Both}
 use Rattle.ip_commands.specs.declared.request.Form.{Form}
 use Rattle.ip_commands.specs.declared.request.Form.TheVariants.{Blocks}
+use Rattle.ip_commands.specs.declared.request.Layout.{Layout}
+use Rattle.ip_commands.specs.declared.request.Layout.TheVariants.{Lines}
 use Rattle.ip_commands.specs.declared.request.Request.{Request}
 
 -- ---- tests on words
@@ -218,39 +221,40 @@ pub either-default : {X : Type 0} (new old : Option X) (default : X)
 either-default None old default = refl
 either-default (Some value) old default = refl
 
--- What the options ask for with one more.
-abbrev pub option_added : List ℕ → Options → Options
-option_added word options = record {
-  form = unwrap_or (form_asked word) options.form;
-  families = unwrap_or (families_asked word) options.families;
-  question = option_or (question_asked word) options.question;
-  fail_empty = options.fail_empty || asks_fail_empty word;
-  skip_bad = options.skip_bad || asks_skip_bad word;
-}
-
--- Options that are the same in each part are the same.
-pub options-equal : (some other : Options) → some.form ≡ other.form
+-- What is asked for is the same if each part of it is.
+pub choices-equal : (some other : Choices) → some.form ≡ other.form → some.layout ≡ other.layout
     → some.families ≡ other.families → some.question ≡ other.question
-    → some.fail_empty ≡ other.fail_empty → some.skip_bad ≡ other.skip_bad → some ≡ other
-options-equal some other form families question fail_empty skip_bad = λ i. record {
+    → some.fail_empty ≡ other.fail_empty → some.skip_bad ≡ other.skip_bad
+    → some.prefix ≡ other.prefix → some.suffix ≡ other.suffix → some ≡ other
+choices-equal some other form layout families question fail_empty skip_bad prefix suffix = λ i. record {
   form = form i;
+  layout = layout i;
   families = families i;
   question = question i;
   fail_empty = fail_empty i;
   skip_bad = skip_bad i;
+  prefix = prefix i;
+  suffix = suffix i;
 }
+
+-- The last value or else a default, with one more option that may ask for one.
+default-more : {X : Type 0} (asked : List ℕ → Option X) (default : X) (options : List (List ℕ))
+    (option : List ℕ)
+    → unwrap_or (last_or None (filter_map asked (options ++ option ∷ []))) default
+    ≡ unwrap_or (asked option) (unwrap_or (last_or None (filter_map asked options)) default)
+default-more asked default options option =
+    ap (λ each. unwrap_or each default) (last-more asked None options option)
+    ∙ either-default (asked option) (last_or None (filter_map asked options)) default
 
 -- One more option adds what it asks for.
 pub asked-more : (options : List (List ℕ)) (word : List ℕ)
     → asked_by (options ++ word ∷ []) ≡ option_added word (asked_by options)
 asked-more options word =
-    options-equal (asked_by (options ++ word ∷ [])) (option_added word (asked_by options))
-    (ap (λ each. unwrap_or each Blocks) (last-more form_asked None options word)
-    ∙ either-default (form_asked word) (last_or None (filter_map form_asked options)) Blocks)
-    (ap (λ each. unwrap_or each Both) (last-more families_asked None options word)
-    ∙ either-default (families_asked word) (last_or None (filter_map families_asked options)) Both)
-    (last-more question_asked None options word)
+    choices-equal (asked_by (options ++ word ∷ [])) (option_added word (asked_by options))
+    (default-more form_asked Blocks options word) (default-more layout_asked Lines options word)
+    (default-more families_asked Both options word) (last-more question_asked None options word)
     (one-more asks_fail_empty options word) (one-more asks_skip_bad options word)
+    (default-more prefix_asked [] options word) (default-more suffix_asked [] options word)
 
 -- ---- slices
 
@@ -292,14 +296,14 @@ some-mapped f xs some = rw (length-map xs f) some
 -- ---- commands
 
 -- What an operation on files asks for, or that there are too few files.
-pub of-operation : (options : Options) (operands : List (List ℕ)) (command : List ℕ)
+pub of-operation : (choices : Choices) (operands : List (List ℕ)) (command : List ℕ)
     (files : List (Bor (List ℕ))) (result : Result Request Misuse)
     → operands ≡ command ∷ map (λ name. name.now) files → words_needed command ≡ Some 1
-    → IfOk result (IsRequestWith options operands)
+    → IfOk result (IsRequestWith choices operands)
     → IfErr result (λ misuse. (misuse ≡ MissingFile) × (files ≡ []))
-    → MatchResult result (IsRequestWith options operands) (IsMisuseOfOperands operands)
-of-operation options operands command files (Ok request) parts needs asks few = asks
-of-operation options operands command files (Err misuse) parts needs asks few =
+    → MatchResult result (IsRequestWith choices operands) (IsMisuseOfOperands operands)
+of-operation choices operands command files (Ok request) parts needs asks few = asks
+of-operation choices operands command files (Err misuse) parts needs asks few =
     let none : length (map (λ (name : Bor (List ℕ)). name.now) files) < 1 =
     subst (λ (each : List (Bor (List ℕ))). length (map (λ name. name.now) each) < 1) (sym few.1)
     (lit< tt) in
@@ -313,39 +317,41 @@ of-operation options operands command files (Err misuse) parts needs asks few =
     subst (IsMisuseOfOperands operands) (sym few.0) whole
 
 -- What a command and other words ask for, or what is wrong with them.
-pub of-command : (options : Options) (operands others : List (List ℕ))
+pub of-command : (choices : Choices) (operands others : List (List ℕ))
     (result : Result Request Misuse) → operands ≡ others
-    → IfOk result (IsRequestWith options others)
+    → IfOk result (IsRequestWith choices others)
     → IfErr result (IsMisuseOfOperands others)
-    → MatchResult result (IsRequestWith options operands) (IsMisuseOfOperands operands)
-of-command options operands others (Ok request) same asks wrong =
-    subst (λ words. IsRequestWith options words request) (sym same) asks
-of-command options operands others (Err misuse) same asks wrong =
+    → MatchResult result (IsRequestWith choices operands) (IsMisuseOfOperands operands)
+of-command choices operands others (Ok request) same asks wrong =
+    subst (λ words. IsRequestWith choices words request) (sym same) asks
+of-command choices operands others (Err misuse) same asks wrong =
     subst (λ words. IsMisuseOfOperands words misuse) (sym same) wrong
 
 -- What is wrong with the operands comes before repeated input.
-pub misuse-first : (options : Options) (operands : List (List ℕ)) (misuse : Misuse)
-    → IsMisuseOfOperands operands misuse → IsMisuseOfCommand options operands misuse
-misuse-first options operands NoCommand is = is
-misuse-first options operands (UnknownCommand word) is = is
-misuse-first options operands (UnknownOption word) is = is
-misuse-first options operands (NoNumber word) is = is
-misuse-first options operands (NoAddress word) is = is
-misuse-first options operands (ExtraWord word) is = is
-misuse-first options operands MissingFile is = is
-misuse-first options operands MissingNumber is = is
-misuse-first options operands MissingAddress is = is
-misuse-first options operands RepeatedInput is = absurd is
-misuse-first options operands NotText is = is
+pub misuse-first : (choices : Choices) (operands : List (List ℕ)) (misuse : Misuse)
+    → IsMisuseOfOperands operands misuse → IsMisuseOfCommand choices operands misuse
+misuse-first choices operands NoCommand is = is
+misuse-first choices operands (UnknownCommand word) is = is
+misuse-first choices operands (UnknownOption word) is = is
+misuse-first choices operands (UnknownValue option value) is = absurd is
+misuse-first choices operands (MissingValue option) is = absurd is
+misuse-first choices operands (NoNumber word) is = is
+misuse-first choices operands (NoAddress word) is = is
+misuse-first choices operands (ExtraWord word) is = is
+misuse-first choices operands MissingFile is = is
+misuse-first choices operands MissingNumber is = is
+misuse-first choices operands MissingAddress is = is
+misuse-first choices operands RepeatedInput is = absurd is
+misuse-first choices operands NotText is = is
 
 -- What is wrong with the operands, if `?` passes it on.
-pub misuse-passed : (options : Options) (operands : List (List ℕ)) (result : Result Request Misuse)
+pub misuse-passed : (choices : Choices) (operands : List (List ℕ)) (result : Result Request Misuse)
     (misuse : Misuse) → IsErrAnd result (λ other. other ≡ misuse)
     → IsMisuseOfOperands operands misuse
-    → MatchResult result (IsCommand options operands) (IsMisuseOfCommand options operands)
-misuse-passed options operands (Ok request) misuse same is = absurd same
-misuse-passed options operands (Err other) misuse same is =
-    subst (IsMisuseOfCommand options operands) (sym same) (misuse-first options operands misuse is)
+    → MatchResult result (IsCommand choices operands) (IsMisuseOfCommand choices operands)
+misuse-passed choices operands (Ok request) misuse same is = absurd same
+misuse-passed choices operands (Err other) misuse same is =
+    subst (IsMisuseOfCommand choices operands) (sym same) (misuse-first choices operands misuse is)
 
 -- A word that is none of the commands.
 pub no-command : (word : List ℕ) → word ≢ codes "union" → word ≢ codes "common"
@@ -439,12 +445,12 @@ module _ (words : List (List ℕ)) (word : List ℕ) where
   more-operand-ended (inr plain) =
       one-more is_mark words word ∙ or-none (list_any is_mark words) (is_mark word) (no-mark word plain)
 
-  module _ {A : Type 0} (old new : Arguments A) (are : AreArguments words old) where
+  module _ {A : Type 0} (old new : Arguments A) (are : Have words old) where
     -- The arguments of one more operand.
     pub more-operand : (old.is_ended ≡ true) ⊎ (is_dashed word ≡ false)
         → map (λ each. each.now) new.operands.items
         ≡ map (λ each. each.now) old.operands.items ++ word ∷ []
-        → new.options ≡ old.options → new.is_ended ≡ old.is_ended → AreArguments all_words new
+        → new.options ≡ old.options → new.is_ended ≡ old.is_ended → Have all_words new
     more-operand which items options ended =
         let marked : (list_any is_mark words ≡ true) ⊎ (is_dashed word ≡ false) =
         elim which [ inl is ↦ inl (sym are.ended ∙ is) | inr is ↦ inr is ] in
@@ -452,7 +458,7 @@ module _ (words : List (List ℕ)) (word : List ℕ) where
         record {
           known = ap (λ each. find (λ (option : List ℕ). not (is_known option)) each) same-options
               ∙ are.known;
-          options = options ∙ are.options ∙ sym (ap asked_by same-options);
+          options = ap choices_of options ∙ are.options ∙ sym (ap asked_by same-options);
           operands = items ∙ ap (λ each. each ++ word ∷ []) are.operands
               ∙ sym (more-operand-operands marked);
           ended = ended ∙ are.ended ∙ sym (more-operand-ended marked);
@@ -461,7 +467,7 @@ module _ (words : List (List ℕ)) (word : List ℕ) where
     -- The arguments after `--`.
     pub more-mark : old.is_ended ≡ false → is_mark word ≡ true
         → map (λ each. each.now) new.operands.items ≡ map (λ each. each.now) old.operands.items
-        → new.options ≡ old.options → new.is_ended ≡ true → AreArguments all_words new
+        → new.options ≡ old.options → new.is_ended ≡ true → Have all_words new
     more-mark unended mark items options ended =
         let none : list_any is_mark words ≡ false = sym are.ended ∙ unended in
         let same-options : options_of all_words ≡ options_of words =
@@ -471,7 +477,7 @@ module _ (words : List (List ℕ)) (word : List ℕ) where
         record {
           known = ap (λ each. find (λ (option : List ℕ). not (is_known option)) each) same-options
               ∙ are.known;
-          options = options ∙ are.options ∙ sym (ap asked_by same-options);
+          options = ap choices_of options ∙ are.options ∙ sym (ap asked_by same-options);
           operands = items ∙ are.operands ∙ sym (append-nil (operands_of words))
               ∙ ap (λ each. operands_of words ++ each) (sym (mark-operand word mark))
               ∙ sym (operands-unmarked words (word ∷ []) none);
@@ -483,13 +489,9 @@ module _ (words : List (List ℕ)) (word : List ℕ) where
     pub more-option : old.is_ended ≡ false → is_mark word ≡ false → is_dashed word ≡ true
         → is_known word ≡ true
         → map (λ each. each.now) new.operands.items ≡ map (λ each. each.now) old.operands.items
-        → new.options.form ≡ unwrap_or (form_asked word) old.options.form
-        → new.options.families ≡ unwrap_or (families_asked word) old.options.families
-        → new.options.question ≡ option_or (question_asked word) old.options.question
-        → new.options.fail_empty ≡ (old.options.fail_empty || asks_fail_empty word)
-        → new.options.skip_bad ≡ (old.options.skip_bad || asks_skip_bad word)
-        → new.is_ended ≡ old.is_ended → AreArguments all_words new
-    more-option unended other dashed known items form families question fail_empty skip_bad ended =
+        → choices_of new.options ≡ option_added word (choices_of old.options)
+        → new.is_ended ≡ old.is_ended → Have all_words new
+    more-option unended other dashed known items added ended =
         let none : list_any is_mark words ≡ false = sym are.ended ∙ unended in
         let more : options_of all_words ≡ options_of words ++ word ∷ [] =
         options-unmarked words (word ∷ []) none
@@ -500,8 +502,7 @@ module _ (words : List (List ℕ)) (word : List ℕ) where
               (word ∷ [])
               ∙ ap (λ each. option_or each (cond (not (is_known word)) (Some word) None)) are.known
               ∙ known-passes word (is_known word) known;
-          options = options-equal new.options (option_added word old.options) form families question
-              fail_empty skip_bad
+          options = added
               ∙ ap (option_added word) are.options
               ∙ sym (ap asked_by more ∙ asked-more (options_of words) word);
           operands = items ∙ are.operands ∙ sym (append-nil (operands_of words))
@@ -527,3 +528,321 @@ module _ (words : List (List ℕ)) (word : List ℕ) where
         ∙ ap (λ each. option_or each (cond (not (is_known word)) (Some word)
         (find test (options_of after)))) are.known
         ∙ unknown-found word (find test (options_of after)) (is_known word) unknown
+
+-- ---- words that are read one by one
+
+-- A word that needs a value is one of these.
+needs-which : (word : List ℕ) (P : List ℕ → Type 0) → needs_value word ≡ true
+    → P (codes "--format") → P (codes "--prefix") → P (codes "--suffix") → P word
+needs-which word P needs format prefix suffix =
+    by (bytes_eq word (codes "--format")) (bytes_eq word (codes "--prefix"))
+    (bytes_eq word (codes "--suffix")) refl refl refl needs
+  where
+    is_word : (other : List ℕ) → bytes_eq word other ≡ true → word ≡ other
+    is_word other same = (bytes_eq-Decides word other).0 same
+
+    by : (first second third : Bool) → bytes_eq word (codes "--format") ≡ first
+        → bytes_eq word (codes "--prefix") ≡ second → bytes_eq word (codes "--suffix") ≡ third
+        → (first || (second || third)) ≡ true → P word
+    by true second third is also too some = subst P (sym (is_word (codes "--format") is)) format
+    by false true third is also too some = subst P (sym (is_word (codes "--prefix") also)) prefix
+    by false false true is also too some = subst P (sym (is_word (codes "--suffix") too)) suffix
+    by false false false is also too some = absurd (true≢false (sym some))
+
+-- Such a word is an option, and by itself unknown.
+pub needs-dashed : (word : List ℕ) → needs_value word ≡ true → is_dashed word ≡ true
+needs-dashed word needs = needs-which word (λ each. is_dashed each ≡ true) needs refl refl refl
+
+pub needs-unmarked : (word : List ℕ) → needs_value word ≡ true → is_mark word ≡ false
+needs-unmarked word needs = needs-which word (λ each. is_mark each ≡ false) needs refl refl refl
+
+pub needs-unknown : (word : List ℕ) → needs_value word ≡ true → is_known word ≡ false
+needs-unknown word needs = needs-which word (λ each. is_known each ≡ false) needs refl refl refl
+
+-- A word with two bytes or more, the first of which is a dash, is an option.
+long-dashed : (second : ℕ) (rest : List ℕ) → is_dashed (45 ∷ second ∷ rest) ≡ true
+long-dashed second rest = grind (arith, nat_tests)
+
+-- With its value, it is an option too.
+pub assigned-dashed : (option value : List ℕ) → needs_value option ≡ true
+    → is_dashed (assigned option value) ≡ true
+assigned-dashed option value needs =
+    needs-which option (λ each. is_dashed (assigned each value) ≡ true) needs
+    (long-dashed 45 (codes "format=" ++ value)) (long-dashed 45 (codes "prefix=" ++ value))
+    (long-dashed 45 (codes "suffix=" ++ value))
+
+pub assigned-unmarked : (option value : List ℕ) → needs_value option ≡ true
+    → is_mark (assigned option value) ≡ false
+assigned-unmarked option value needs =
+    needs-which option (λ each. is_mark (assigned each value) ≡ false) needs refl refl refl
+
+-- A word that is no option needs no value.
+no-value : (word : List ℕ) → is_dashed word ≡ false → needs_value word ≡ false
+no-value word plain = by (needs_value word) refl
+  where
+    by : (needs : Bool) → needs_value word ≡ needs → needs_value word ≡ false
+    by true is = absurd (true≢false (sym (needs-dashed word is) ∙ plain))
+    by false is = is
+
+-- How words go on after an operand.
+step-operand : (ended : Bool) (word : List ℕ) → (ended ≡ true) ⊎ (is_dashed word ≡ false)
+    → (after : List (List ℕ))
+    → goes_on ended None (word ∷ after) ≡ (word ∷ []) ++ goes_on ended None after
+step-operand true word which after = refl
+step-operand false word (inl is) after = absurd (true≢false (sym is))
+step-operand false word (inr plain) after = rw (no-mark word plain, no-value word plain) refl
+
+-- How words go on after `--`.
+step-mark : (ended : Bool) (word : List ℕ) → ended ≡ false → is_mark word ≡ true
+    → (after : List (List ℕ))
+    → goes_on ended None (word ∷ after) ≡ (word ∷ []) ++ goes_on true None after
+step-mark true word unended mark after = absurd (true≢false unended)
+step-mark false word unended mark after = rw mark refl
+
+-- How words go on after an option that needs a value.
+step-waits : (ended : Bool) (word : List ℕ) → ended ≡ false → needs_value word ≡ true
+    → (after : List (List ℕ))
+    → goes_on ended None (word ∷ after) ≡ goes_on ended (Some word) after
+step-waits true word unended needs after = absurd (true≢false unended)
+step-waits false word unended needs after = rw (needs-unmarked word needs, needs) refl
+
+-- How words go on after another option.
+step-option : (ended : Bool) (word : List ℕ) → ended ≡ false → is_mark word ≡ false
+    → needs_value word ≡ false → (after : List (List ℕ))
+    → goes_on ended None (word ∷ after) ≡ (word ∷ []) ++ goes_on ended None after
+step-option true word unended other whole after = absurd (true≢false unended)
+step-option false word unended other whole after = rw (other, whole) refl
+
+-- How words go on after the value of an option.
+step-value : (ended : Bool) (option value : List ℕ) → ended ≡ false → (after : List (List ℕ))
+    → goes_on ended (Some option) (value ∷ after)
+    ≡ (assigned option value ∷ []) ++ goes_on ended None after
+step-value true option value unended after = absurd (true≢false unended)
+step-value false option value unended after = refl
+
+-- ---- the option that waits
+
+module _ {A : Type 0} (words : List (List ℕ)) (arguments : Arguments A)
+    (waits : Option (Bor (List ℕ))) (none : waits ≡ None) where
+  -- If no option waits, the arguments have all that was read.
+  pub unwaited : AreReadTo (option_map (λ option. option.now) waits) words arguments
+      → AreReadTo None words arguments
+  unwaited are = subst (λ each. AreReadTo (option_map (λ option. option.now) each) words arguments) none are
+
+  -- The other way round.
+  pub rewaited : AreReadTo None words arguments
+      → AreReadTo (option_map (λ option. option.now) waits) words arguments
+  rewaited are =
+      subst (λ each. AreReadTo (option_map (λ option. option.now) each) words arguments) (sym none) are
+
+-- If words go on like this, they do so after one more word.
+goes-further : (words read more : List (List ℕ)) (word : List ℕ) (ended ends : Bool)
+    (waits wait : Option (List ℕ))
+    → ((after : List (List ℕ)) → whole_words (words ++ after) ≡ read ++ goes_on ended waits after)
+    → ((after : List (List ℕ)) → goes_on ended waits (word ∷ after) ≡ more ++ goes_on ends wait after)
+    → (after : List (List ℕ))
+    → whole_words ((words ++ word ∷ []) ++ after) ≡ (read ++ more) ++ goes_on ends wait after
+goes-further words read more word ended ends waits wait goes step after =
+    ap whole_words (append_assoc words (word ∷ []) after) ∙ goes (word ∷ after)
+    ∙ ap (λ rest. read ++ rest) (step after) ∙ sym (append_assoc read more (goes_on ends wait after))
+
+module _ {A : Type 0} (words : List (List ℕ)) (word : List ℕ) (old new : Arguments A) where
+  -- The word is an operand.
+  pub reads-operand : AreReadTo None words old → (old.is_ended ≡ true) ⊎ (is_dashed word ≡ false)
+      → map (λ each. each.now) new.operands.items
+      ≡ map (λ each. each.now) old.operands.items ++ word ∷ []
+      → new.options ≡ old.options → new.is_ended ≡ old.is_ended
+      → AreReadTo None (words ++ word ∷ []) new
+  reads-operand are which items options ended = record {
+    read = are.read ++ word ∷ [];
+    have = more-operand are.read word old new are.have which items options ended;
+    goes = subst (λ end. (after : List (List ℕ)) → whole_words ((words ++ word ∷ []) ++ after)
+        ≡ (are.read ++ word ∷ []) ++ goes_on end None after) (sym ended)
+        (goes-further words are.read (word ∷ []) word old.is_ended old.is_ended None None are.goes
+        (step-operand old.is_ended word which));
+    needs = tt;
+    unended = λ is. refl;
+  }
+
+  -- The word is `--`.
+  pub reads-mark : AreReadTo None words old → old.is_ended ≡ false → is_mark word ≡ true
+      → map (λ each. each.now) new.operands.items ≡ map (λ each. each.now) old.operands.items
+      → new.options ≡ old.options → new.is_ended ≡ true → AreReadTo None (words ++ word ∷ []) new
+  reads-mark are unended mark items options ended = record {
+    read = are.read ++ word ∷ [];
+    have = more-mark are.read word old new are.have unended mark items options ended;
+    goes = subst (λ end. (after : List (List ℕ)) → whole_words ((words ++ word ∷ []) ++ after)
+        ≡ (are.read ++ word ∷ []) ++ goes_on end None after) (sym ended)
+        (goes-further words are.read (word ∷ []) word old.is_ended true None None are.goes
+        (step-mark old.is_ended word unended mark));
+    needs = tt;
+    unended = λ is. refl;
+  }
+
+  -- The word is an option that needs a value.
+  pub reads-waits : AreReadTo None words old → old.is_ended ≡ false → needs_value word ≡ true
+      → map (λ each. each.now) new.operands.items ≡ map (λ each. each.now) old.operands.items
+      → new.options ≡ old.options → new.is_ended ≡ old.is_ended
+      → AreReadTo (Some word) (words ++ word ∷ []) new
+  reads-waits are unended needs items options ended = record {
+    read = are.read;
+    have = record {
+      known = are.have.known;
+      options = ap choices_of options ∙ are.have.options;
+      operands = items ∙ are.have.operands;
+      ended = ended ∙ are.have.ended;
+    };
+    goes = subst (λ end. (after : List (List ℕ)) → whole_words ((words ++ word ∷ []) ++ after)
+        ≡ are.read ++ goes_on end (Some word) after) (sym ended)
+        (λ after. ap whole_words (append_assoc words (word ∷ []) after) ∙ are.goes (word ∷ after)
+        ∙ ap (λ rest. are.read ++ rest) (step-waits old.is_ended word unended needs after));
+    needs = needs;
+    unended = λ is. absurd (true≢false (sym is ∙ ended ∙ unended));
+  }
+
+  -- The word is another option, which is known.
+  pub reads-option : AreReadTo None words old → old.is_ended ≡ false → is_mark word ≡ false
+      → is_dashed word ≡ true → needs_value word ≡ false → IsAdded word old.options new.options
+      → map (λ each. each.now) new.operands.items ≡ map (λ each. each.now) old.operands.items
+      → new.is_ended ≡ old.is_ended → AreReadTo None (words ++ word ∷ []) new
+  reads-option are unended other dashed whole is items ended = record {
+    read = are.read ++ word ∷ [];
+    have = more-option are.read word old new are.have unended other dashed is.known items is.added ended;
+    goes = subst (λ end. (after : List (List ℕ)) → whole_words ((words ++ word ∷ []) ++ after)
+        ≡ (are.read ++ word ∷ []) ++ goes_on end None after) (sym ended)
+        (goes-further words are.read (word ∷ []) word old.is_ended old.is_ended None None are.goes
+        (step-option old.is_ended word unended other whole));
+    needs = tt;
+    unended = λ is. refl;
+  }
+
+  -- The word is the value of an option.
+  pub reads-value : (option : List ℕ) → AreReadTo (Some option) words old → old.is_ended ≡ false
+      → needs_value option ≡ true → IsAdded (assigned option word) old.options new.options
+      → map (λ each. each.now) new.operands.items ≡ map (λ each. each.now) old.operands.items
+      → new.is_ended ≡ old.is_ended → AreReadTo None (words ++ word ∷ []) new
+  reads-value option are unended needs is items ended = record {
+    read = are.read ++ assigned option word ∷ [];
+    have = more-option are.read (assigned option word) old new are.have unended
+        (assigned-unmarked option word needs) (assigned-dashed option word needs) is.known items
+        is.added ended;
+    goes = subst (λ end. (after : List (List ℕ)) → whole_words ((words ++ word ∷ []) ++ after)
+        ≡ (are.read ++ assigned option word ∷ []) ++ goes_on end None after) (sym ended)
+        (goes-further words are.read (assigned option word ∷ []) word old.is_ended old.is_ended
+        (Some option) None are.goes (step-value old.is_ended option word unended));
+    needs = tt;
+    unended = λ is. refl;
+  }
+
+module _ {A : Type 0} (words : List (List ℕ)) (old : Arguments A) where
+  -- An option that waits comes before `--`.
+  pub waits-unended : (option : List ℕ) → AreReadTo (Some option) words old → old.is_ended ≡ false
+  waits-unended option are = by old.is_ended are.unended
+    where
+      by : (ended : Bool) → (IsTrue ended → Some option ≡ None) → ended ≡ false
+      by true unended = cc (unended refl)
+      by false unended = refl
+
+  -- An option that is unknown is the first one, whatever follows it.
+  pub first-unread : (word : List ℕ) (after : List (List ℕ)) → AreReadTo None words old
+      → old.is_ended ≡ false → is_mark word ≡ false → is_dashed word ≡ true
+      → needs_value word ≡ false → is_known word ≡ false
+      → first_unknown (whole_words (words ++ word ∷ after)) ≡ Some word
+  first-unread word after are unended other dashed whole unknown =
+      ap first_unknown (are.goes (word ∷ after)
+      ∙ ap (λ rest. are.read ++ rest) (step-option old.is_ended word unended other whole after))
+      ∙ first-unknown are.read word old old are.have (goes_on old.is_ended None after) unended other
+      dashed unknown
+
+  -- So is an option with a value that is unknown.
+  pub first-value : (option value : List ℕ) (after : List (List ℕ))
+      → AreReadTo (Some option) words old → old.is_ended ≡ false → needs_value option ≡ true
+      → is_known (assigned option value) ≡ false
+      → first_unknown (whole_words (words ++ value ∷ after)) ≡ Some (assigned option value)
+  first-value option value after are unended needs unknown =
+      ap first_unknown (are.goes (value ∷ after)
+      ∙ ap (λ rest. are.read ++ rest) (step-value old.is_ended option value unended after))
+      ∙ first-unknown are.read (assigned option value) old old are.have
+      (goes_on old.is_ended None after) unended (assigned-unmarked option value needs)
+      (assigned-dashed option value needs) unknown
+
+  -- So is an option that lacks its value.
+  pub first-waits : (option : List ℕ) → AreReadTo (Some option) words old
+      → first_unknown (whole_words words) ≡ Some option
+  first-waits option are =
+      let unended = waits-unended option are in
+      let last : goes_on old.is_ended (Some option) [] ≡ option ∷ [] =
+      ap (λ end. goes_on end (Some option) []) unended in
+      ap (λ each. first_unknown (whole_words each)) (sym (append-nil words))
+      ∙ ap first_unknown (are.goes [] ∙ ap (λ rest. are.read ++ rest) last)
+      ∙ first-unknown are.read option old old are.have [] unended
+      (needs-unmarked option are.needs) (needs-dashed option are.needs)
+      (needs-unknown option are.needs)
+
+  -- Arguments that have the same, and in which no option waits either, have what was read too.
+  pub same-read : (new : Arguments A) → AreRead words old → old.waits ≡ None → new.waits ≡ None
+      → new.options ≡ old.options → new.operands ≡ old.operands → new.is_ended ≡ old.is_ended
+      → AreRead words new
+  same-read new are none none_too options operands ended =
+      let all = unwaited words old old.waits none are in
+      rewaited words new new.waits none_too record {
+        read = all.read;
+        have = record {
+          known = all.have.known;
+          options = ap choices_of options ∙ all.have.options;
+          operands = ap (λ each. map (λ word. word.now) each.items) operands ∙ all.have.operands;
+          ended = ended ∙ all.have.ended;
+        };
+        goes = subst (λ end. (after : List (List ℕ)) → whole_words (words ++ after)
+            ≡ all.read ++ goes_on end None after) (sym ended) all.goes;
+        needs = tt;
+        unended = λ is. refl;
+      }
+
+  -- If no option waits, the arguments are those of the words.
+  pub all-read : AreReadTo None words old → AreArguments words old
+  all-read are =
+      let last : (ended : Bool) → goes_on ended None [] ≡ [] =
+      λ ended. elim ended as (λ end. goes_on end None [] ≡ []) [ true ↦ refl | false ↦ refl ] in
+      let whole : whole_words words ≡ are.read =
+      ap whole_words (sym (append-nil words)) ∙ are.goes []
+      ∙ ap (λ rest. are.read ++ rest) (last old.is_ended) ∙ append-nil are.read in
+      record { have = subst (λ each. Have each old) (sym whole) are.have }
+
+-- ---- what follows a text
+
+-- What follows a text after it.
+after-own : (text rest : List ℕ) → after_text text (text ++ rest) ≡ Some rest
+after-own [] rest = refl
+after-own (byte ∷ text) rest =
+    let same : (byte == byte) ≡ true = grind (arith, nat_tests) in rw (same, after-own text rest) refl
+
+-- A word has its text before what follows it.
+pub after-parts : (text word rest : List ℕ) → after_text text word ≡ Some rest → word ≡ text ++ rest
+after-parts [] word rest is = cc
+after-parts (byte ∷ text) [] rest is = cc
+after-parts (byte ∷ text) (first ∷ word) rest is =
+    by (byte == first) refl is (λ more. after-parts text word rest more)
+  where
+    by : (same : Bool) → (byte == first) ≡ same
+        → (if same then after_text text word else None) ≡ Some rest
+        → (after_text text word ≡ Some rest → word ≡ text ++ rest)
+        → first ∷ word ≡ byte ∷ (text ++ rest)
+    by true same is more =
+        let equal : byte ≡ first = grind (arith, nat_tests, same) in
+        let rest_is = more is in
+        λ i. sym equal i ∷ rest_is i
+    by false same is more = cc
+
+-- What `strip_prefix` returns is what follows the text.
+pub after-stripped : (text word : List ℕ) (result : Option (Bor (List ℕ)))
+    → MatchOption result (FindsTextPrefix text word None)
+    (λ rest. StripsPrefix (FindsTextPrefix text) word rest.now)
+    → MatchOption result (after_text text word ≡ None) (λ rest. after_text text word ≡ Some rest.now)
+after-stripped text word None lacks = by (after_text text word) refl
+  where
+    by : (found : Option (List ℕ)) → after_text text word ≡ found → after_text text word ≡ None
+    by None is = is
+    by (Some rest) is = absurd (lacks rest (after-parts text word rest is))
+after-stripped text word (Some rest) is =
+    ap (after_text text) is.1.1 ∙ after-own text (drop is.0 word) ∙ ap (λ each. Some each) (sym is.2)

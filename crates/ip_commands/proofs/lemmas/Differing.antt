@@ -8,7 +8,10 @@ use Rattle.range_set_blaze.specs.Selection.{Agree, Selection, difference, union}
 use Rattle.rsb_streams.specs.Stream.{◌⊆◌, SomeOutcomes, just}
 use Rattle.ip_commands.specs.Answer.{IsDiffText}
 use Rattle.ip_commands.specs.Files.{Selected}
+use Rattle.ip_commands.specs.Layout.{IsSigned}
 use Rattle.ip_commands.specs.Selection.{WritesSelected}
+use Rattle.ip_commands.specs.declared.request.Style.{Style}
+use Rattle.ip_commands.proofs.lemmas.Lines.{laid-signed}
 use Rattle.ip_commands.specs.declared.request.Families.{Families}
 use Rattle.ip_commands.specs.declared.request.Form.{Form}
 use Rattle.ip_commands.proofs.lemmas.Appends.{Appends-then}
@@ -37,14 +40,15 @@ only-runs n given set same are = λ runs is.
     subst (AreRuns n (members set)) (sym (is ∙ same)) are
 
 -- If both differences were written, so was what differs.
-pub both-differences : (form : Form) (families : Families) (old new : Selected)
+pub both-differences : (form : Form) (families : Families) (old new : Selected) (outward inward : Style)
     (before between after : Option (List ℕ)) (has_minus has_plus : Bool)
-    → WritesSelected has_minus (codes "-") form families (difference old.v4 new.v4)
-    (difference old.v6 new.v6) before between
-    → WritesSelected has_plus (codes "+") form families (difference new.v4 old.v4)
-    (difference new.v6 old.v6) between after
+    → IsSigned (codes "-") form families outward → IsSigned (codes "+") form families inward
+    → WritesSelected has_minus outward (difference old.v4 new.v4) (difference old.v6 new.v6) before
+    between
+    → WritesSelected has_plus inward (difference new.v4 old.v4) (difference new.v6 old.v6) between
+    after
     → (text : List ℕ) × IsDiffText form families old new text × Appends before after text
-both-differences form families old new before between after has_minus has_plus outs ins = (
+both-differences form families old new outward inward before between after has_minus has_plus minus plus outs ins = (
   outs.text ++ ins.text,
   record {
     out4 = outs.v4_runs;
@@ -57,8 +61,10 @@ both-differences form families old new before between after has_minus has_plus o
     in6_made = ins.v6_made;
     minus = outs.text;
     plus = ins.text;
-    minus_text = outs.whole;
-    plus_text = ins.whole;
+    minus_text = laid-signed outward outs.v4_runs outs.v6_runs outs.text outs.whole (codes "-") form
+        families minus;
+    plus_text = laid-signed inward ins.v4_runs ins.v6_runs ins.text ins.whole (codes "+") form
+        families plus;
     whole = refl;
   },
   Appends-then before between after outs.text ins.text outs.written ins.written,

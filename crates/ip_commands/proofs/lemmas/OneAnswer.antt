@@ -21,7 +21,8 @@ use Rattle.ip_commands.specs.declared.commands.Outcome.{Outcome}
 use Rattle.ip_commands.specs.declared.request.Combination.{Combination}
 use Rattle.ip_commands.specs.declared.request.Families.{Families}
 use Rattle.ip_commands.specs.declared.request.Families.TheVariants.{Both, V4, V6}
-use Rattle.ip_commands.proofs.lemmas.SameText.{one-list, same-set}
+use Rattle.ip_commands.specs.Layout.{form_in, head_v4, head_v6, tail}
+use Rattle.ip_commands.proofs.lemmas.SameText.{one-list, same-laid}
 
 -- ---- known files are lists of one set
 
@@ -101,8 +102,8 @@ pub one_answer : (bytes : List ℕ → Option (List ℕ)) (combination : Combina
     (text other : List ℕ) → AreKnown bytes (file_names combination.sources)
     → IsCombined bytes combination text → IsCombined bytes combination other → text ≡ other
 one_answer bytes combination text other known is also =
-    let form = combination.form in
-    let families = combination.families in
+    let style = combination.style in
+    let families = style.families in
     let operation = combination.operation in
     let lists = same-files bytes combination.sources.skip_bad (file_names combination.sources) is.lists
     also.lists known is.are also.are in
@@ -110,19 +111,23 @@ one_answer bytes combination text other known is also =
     (v4_of also.lists) (ap v4_of lists) is.v4_made also.v4_made in
     let agree6 = same-made (2 ^ 128) is.v6 also.v6 (selected_by operation) (v6_of is.lists)
     (v6_of also.lists) (ap v6_of lists) is.v6_made also.v6_made in
-    let is4 = is.whole.v4_written in
-    let also4 = also.whole.v4_written in
-    let is6 = is.whole.v6_written in
-    let also6 = also.whole.v6_written in
+    let is4 = is.whole.v4_laid in
+    let also4 = also.whole.v4_laid in
+    let is6 = is.whole.v6_laid in
+    let also6 = also.whole.v6_laid in
     let runs4 = kept-v4 (2 ^ 32) is.v4 also.v4 agree4 families is4.canonical also4.canonical in
     let runs6 = kept-v6 (2 ^ 128) is.v6 also.v6 agree6 families is6.canonical also6.canonical in
-    let first = same-set v4_text (λ number. number) 32 form (kept_v4 families is.v4)
-    (kept_v4 families also.v4) is.whole.v4_lines also.whole.v4_lines (2 ^ 32) is4 also4
+    let form = form_in style.layout style.form in
+    let first = same-laid v4_text (λ number. number) 32 _ _ form (kept_v4 families is.v4)
+    (kept_v4 families also.v4) is.whole.v4_part also.whole.v4_part (2 ^ 32) is4 also4
     (λ number. ap (λ runs. members runs number) runs4) in
-    let last = same-set v6_text (λ number. number) 128 form (kept_v6 families is.v6)
-    (kept_v6 families also.v6) is.whole.v6_lines also.whole.v6_lines (2 ^ 128) is6 also6
+    let last = same-laid v6_text (λ number. number) 128 _ _ form (kept_v6 families is.v6)
+    (kept_v6 families also.v6) is.whole.v6_part also.whole.v6_part (2 ^ 128) is6 also6
     (λ number. ap (λ runs. members runs number) runs6) in
-    is.whole.whole ∙ (λ i. first i ++ last i) ∙ sym also.whole.whole
+    is.whole.whole
+    ∙ (λ i. head_v4 style.layout families
+    ++ (first i ++ (head_v6 style.layout families ++ (last i ++ tail style.layout))))
+    ∙ sym also.whole.whole
 
 -- ---- counts
 

@@ -24,6 +24,8 @@ use Rattle.ip_sets.proofs.lemmas.listing.Selected.{addresses_none}
 use Rattle.ip_sets.proofs.lemmas.listing.WrittenLines.{v4_written, v6_written, AddsRun, IsUnmarkedListOf, WritesFamily}
 use Rattle.ip_commands.specs.Answer.{IsCombined}
 use Rattle.ip_commands.specs.ReadBack.{written_v4, written_v6, ReadsAsCombined}
+use Rattle.ip_commands.specs.Layout.{IsPlain}
+use Rattle.ip_commands.proofs.lemmas.Lines.{laid-plain}
 use Rattle.ip_commands.specs.Text.{block_line, kept_v4, kept_v6, ranges_text, IsListText, IsSetText}
 use Rattle.ip_commands.specs.declared.request.Combination.{Combination}
 use Rattle.ip_commands.specs.declared.request.Families.{Families}
@@ -221,18 +223,19 @@ module _ (n : ℕ) (runs : List Interval) (selected : Selection)
   agree_v6 V4 number within = refl
   agree_v6 V6 number within = made number within
 
--- The text of an operation is a list that selects what the operation selects.
+-- The text of an operation in a plain style is a list that selects what the operation selects.
 pub combined_reads_back : (bytes : List ℕ → Option (List ℕ)) (combination : Combination)
-    (text : List ℕ) → IsCombined bytes combination text → ReadsAsCombined bytes combination text
-combined_reads_back bytes combination text is =
-    let families = combination.families in
+    (text : List ℕ) → IsPlain combination.style → IsCombined bytes combination text
+    → ReadsAsCombined bytes combination text
+combined_reads_back bytes combination text plain is =
+    let families = combination.style.families in
     record {
       lists = is.lists;
       are = is.are;
       v4 = members (kept_v4 families is.v4);
       v6 = members (kept_v6 families is.v6);
-      reads = reads_back combination.form (kept_v4 families is.v4) (kept_v6 families is.v6) text
-          is.whole;
+      reads = reads_back combination.style.form (kept_v4 families is.v4) (kept_v6 families is.v6)
+          text (laid-plain combination.style is.v4 is.v6 text is.whole plain);
       v4_selected = agree_v4 (2 ^ 32) is.v4 _ is.v4_made families;
       v6_selected = agree_v6 (2 ^ 128) is.v6 _ is.v6_made families;
     }

@@ -1,5 +1,5 @@
 -- A set of addresses has one text in each form.
-use Rattle.std.proofs.Common.{◌≡◌, ◌∙◌, ℕ, ◌+◌, ◌-◌, ◌^◌, ◌<◌, ◌≤◌, false, cond, eqb, List, [], ◌∷◌, ◌++◌, refl, sym, ap, subst, arith, inl, inr}
+use Rattle.std.proofs.Common.{◌≡◌, ◌∙◌, ℕ, ◌+◌, ◌-◌, ◌^◌, ◌<◌, ◌≤◌, false, cond, eqb, List, [], ◌∷◌, ◌++◌, map, refl, sym, ap, subst, arith, inl, inr}
 use Rattle.std.proofs.lemmas.Bool.{cases_lt}
 use Rattle.std.proofs.lemmas.List.Elements.{All-head, All-tail}
 use Rattle.std.proofs.lemmas.Nat.{pow_pos}
@@ -19,6 +19,7 @@ use Rattle.ip_sets.specs.Line.{MeansV4, MeansV6}
 use Rattle.ip_sets.specs.List.{IsListOf, list_lines}
 use Rattle.ip_sets.proofs.lemmas.aligned.Powers.{pow-under}
 use Rattle.ip_sets.proofs.lemmas.listing.OneSelection.{one_selection}
+use Rattle.ip_commands.specs.Layout.{Around, IsLaidSet, block_text, laid_ranges, row}
 use Rattle.ip_commands.specs.Text.{block_line, ranges_text, IsListText, IsSetText}
 use Rattle.ip_commands.specs.declared.request.Form.{Form}
 use Rattle.ip_commands.specs.declared.request.Form.TheVariants.{Blocks, Ranges}
@@ -148,7 +149,53 @@ module _ {T : Type 0} (text : ℕ → List ℕ) (rank : T → ℕ) (width : ℕ)
       (All-tail (IsAligned rank width) other others are_too) runs in
       λ i. line_at (first i) (length i) ++ more i
 
+  -- The text of a block, by its first rank and its length.
+  abbrev text_at : ℕ → ℕ → List ℕ
+  text_at first length = cond (eqb length width) (text first)
+      (text first ++ codes "/" ++ decimal length)
+
+  -- Blocks with the same ranks have the same texts.
+  same-texts : (blocks others : List (Block T)) → All (IsAligned rank width) blocks
+      → All (IsAligned rank width) others
+      → block_runs rank width blocks ≡ block_runs rank width others
+      → map (block_text text rank width) blocks ≡ map (block_text text rank width) others
+  same-texts [] [] are are_too same = refl
+  same-texts [] (other ∷ others) are are_too same = absurd (cc same)
+  same-texts (block ∷ blocks) [] are are_too same = absurd (cc same)
+  same-texts (block ∷ blocks) (other ∷ others) are are_too same =
+      let run : block_run rank width block ≡ block_run rank width other = cc same in
+      let runs : block_runs rank width blocks ≡ block_runs rank width others = cc same in
+      let is = All-head (IsAligned rank width) block blocks are in
+      let also = All-head (IsAligned rank width) other others are_too in
+      let length = same-length block other is.0 also.0 run in
+      let first : rank block.first ≡ rank other.first = ap (λ each. each.first) run in
+      let more = same-texts blocks others (All-tail (IsAligned rank width) block blocks are)
+      (All-tail (IsAligned rank width) other others are_too) runs in
+      λ i. text_at (first i) (length i) ∷ more i
+
   -- ---- a set has one text
+
+  -- In each form and layout, two texts of a set are equal.
+  pub same-laid : (round : Around) (dash : ℕ) (form : Form) (runs others : List Interval)
+      (lines more : List ℕ) (many : ℕ) → IsLaidSet round dash text rank width many form runs lines
+      → IsLaidSet round dash text rank width many form others more
+      → ((number : ℕ) → members runs number ≡ members others number) → lines ≡ more
+  same-laid round dash Blocks runs others lines more many is also same =
+      let h = is.written in
+      let k = also.written in
+      let same_members : members others ≡ members runs = λ i number. sym (same number) i in
+      let maximal = subst
+      (λ selected. All (IsMaximalBlock selected) (block_runs rank width k.blocks)) same_members
+      k.fewest.maximal in
+      h.whole
+      ∙ ap (row round) (same-texts h.blocks k.blocks h.aligned k.aligned
+      (blocks-unique (members runs) 0 0 (block_runs rank width h.blocks)
+      (block_runs rank width k.blocks) h.fewest.ascending k.fewest.ascending h.fewest.maximal
+      maximal (λ number. h.fewest.exact number ∙ same number ∙ sym (k.fewest.exact number))))
+      ∙ sym k.whole
+  same-laid round dash Ranges runs others lines more many is also same =
+      let one = canonical-unique 0 0 runs others is.canonical.apart also.canonical.apart same in
+      is.written ∙ ap (laid_ranges round dash text) one ∙ sym also.written
 
   -- In each form, two texts of a set are equal.
   pub same-set : (form : Form) (runs others : List Interval) (lines more : List ℕ) (many : ℕ)

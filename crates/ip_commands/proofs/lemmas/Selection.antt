@@ -1,22 +1,30 @@
 -- How what operations select is written.
-use Rattle.std.proofs.Common.{◌≡◌, ◌∙◌, ℕ, ◌+◌, ◌^◌, Bool, true, false, ◌&&◌, ◌||◌, cond, nat_lt, zero, List, [], ◌∷◌, ◌++◌, length, Option, inl, inr, suc, refl, ap, sym, subst, arith, length-append}
+use Rattle.std.proofs.Common.{◌≡◌, ◌∙◌, ℕ, ◌+◌, ◌^◌, Bool, true, false, ◌&&◌, ◌||◌, cond, nat_lt, zero, List, [], ◌∷◌, ◌++◌, Option, inl, inr, suc, refl, ap, sym, subst, arith}
 use Rattle.std.proofs.lemmas.Bool.{cases_lt}
 use Rattle.std.proofs.lemmas.Bool.Decides.{nat_tests}
-use Rattle.std.specs.Prelude.{Err, IfOk, Ok, Result}
-use Rattle.range_set_blaze.specs.Runs.{AreRuns, Interval, from_to, members}
+use Rattle.std.specs.Io.KnownBytes.{Appends}
+use Rattle.std.specs.Prelude.{IfOk, Result, codes}
+use Rattle.range_set_blaze.specs.Runs.{AreRuns, Interval, IsCanonicalIn, from_to, members}
 use Rattle.range_set_blaze.specs.Selection.{Agree, Selection}
-use Rattle.rsb_integer.proofs.lemmas.Members.{members-cons}
+use Rattle.rsb_integer.proofs.lemmas.List.{not_both}
+use Rattle.rsb_integer.proofs.lemmas.Members.{members-cons, members-head}
 use Rattle.rsb_integer.proofs.lemmas.Runs.{runs-members}
 use Rattle.rsb_streams.specs.Stream.{◌⊆◌, Outcomes}
-use Rattle.ip_sets.specs.List.{has_bytes}
+use Rattle.ip_sets.specs.Address.{v4_text, v6_text}
+use Rattle.ip_sets.specs.Blocks.{AreMaximalBlocks}
 use Rattle.ip_sets.specs.Operation.{selected_by}
 use Rattle.ip_sets.specs.declared.operations.Operation.{Operation}
+use Rattle.ip_commands.specs.Layout.{Around, IsLaidSet, around, dash_of, form_in, has_some, head_v4, head_v6, tail, writes_v4, writes_v6}
+use Rattle.ip_commands.specs.Row.{WritesIf, WritesRuns, around_of}
 use Rattle.ip_commands.specs.Selection.{WritesSelected}
+use Rattle.ip_commands.specs.Text.{kept_v4, kept_v6}
 use Rattle.ip_commands.proofs.lemmas.Appends.{Appends-then}
-use Rattle.ip_commands.proofs.lemmas.Lines.{WritesV4, WritesV6, both-lines, v4-lines, v6-lines}
+use Rattle.ip_commands.proofs.lemmas.Lines.{none-laid}
+use Rattle.ip_commands.specs.declared.layout.Row.{Row}
 use Rattle.ip_commands.specs.declared.request.Families.{Families}
 use Rattle.ip_commands.specs.declared.request.Families.TheVariants.{Both, V4, V6}
 use Rattle.ip_commands.specs.declared.request.Form.{Form}
+use Rattle.ip_commands.specs.declared.request.Style.{Style}
 
 -- ---- a list with the ranks of a set
 
@@ -74,97 +82,154 @@ agrees n selected runs has rank below =
     let is = has rank in
     grind (arith, nat_tests, is)
 
+-- ---- whether there is an address
+
+-- A set with a block has a run.
+pub some-blocks : (blocks runs : List Interval) (n : ℕ) → AreMaximalBlocks (members runs) blocks
+    → IsCanonicalIn n runs → has_some blocks ≡ has_some runs
+some-blocks [] [] n are canonical = refl
+some-blocks [] (run ∷ runs) n are canonical =
+    absurd (not_both (members (run ∷ runs) run.first)
+    (members-head run runs run.first (omega arith) canonical.apart.in_order)
+    (sym (are.exact run.first)))
+some-blocks (block ∷ blocks) [] n are canonical =
+    absurd (not_both (members (block ∷ blocks) block.first)
+    (members-head block blocks block.first (omega arith) are.ascending.1) (are.exact block.first))
+some-blocks (block ∷ blocks) (run ∷ runs) n are canonical = refl
+
 -- ---- what is written
 
--- Two texts one after the other have a byte exactly if one of them has.
-either-has : (one other : Bool) (xs ys : List ℕ) → one ≡ has_bytes xs → other ≡ has_bytes ys
-    → (one || other) ≡ has_bytes (xs ++ ys)
-either-has one other [] ys is is_too = rw (is, is_too) refl
-either-has one other (x ∷ xs) ys is is_too = rw is (
-    let many : length (x ∷ xs ++ ys) ≡ length (x ∷ xs) + length ys = length-append (x ∷ xs) ys in
-    grind (arith, nat_tests, many))
+-- What was written of a family: its runs, their text, and whether there is one.
+pub record WritesPart (n : ℕ) (selected : Selection) (kept : List Interval → List Interval)
+    (IsText : List Interval → List ℕ → Type 0) (some : Bool) (old new : Option (List ℕ)) : Type 0
+  where
+    pub runs : List Interval
+    pub made : Agree n (members runs) selected
+    pub part : List ℕ
+    pub laid : IsText (kept runs) part
+    pub written : Appends old new part
+    pub has : some ≡ has_some (kept runs)
 
-module _ (sign : List ℕ) (form : Form) (families : Families) (these those : Selection)
-    (first_may last_may : Outcomes)
+module _ (IsText : List Interval → List ℕ → Type 0) (none : IsText [] []) (selected : Selection)
+    (may : Outcomes) (some : Bool) (old new : Option (List ℕ)) where
+  -- The runs of a family that is written.
+  all-part : (n : ℕ) → may ⊆ AreRuns n selected → WritesRuns may IsText some old new
+      → WritesPart n selected (λ runs. runs) IsText some old new
+  all-part n only is = record {
+    runs = is.0;
+    made = runs-members n selected is.0 (only is.0 is.1);
+    part = is.2.0;
+    laid = is.2.1;
+    written = is.2.2;
+    has = is.2.3;
+  }
+
+  -- Those of a family that is not written.
+  no-part : (n : ℕ) → (some ≡ false) × Appends old new []
+      → WritesPart n selected (λ runs. []) IsText some old new
+  no-part n is =
+      let others = some-runs n selected in
+      record {
+        runs = others.0;
+        made = agrees n selected others.0 others.1;
+        part = [];
+        laid = none;
+        written = is.1;
+        has = is.0;
+      }
+
+  -- The IPv4 addresses.
+  pub v4-part : (families : Families) → may ⊆ AreRuns (2 ^ 32) selected
+      → WritesIf (writes_v4 families) may IsText some old new
+      → WritesPart (2 ^ 32) selected (kept_v4 families) IsText some old new
+  v4-part Both only is = all-part (2 ^ 32) only is
+  v4-part V4 only is = all-part (2 ^ 32) only is
+  v4-part V6 only is = no-part (2 ^ 32) is
+
+  -- The IPv6 addresses.
+  pub v6-part : (families : Families) → may ⊆ AreRuns (2 ^ 128) selected
+      → WritesIf (writes_v6 families) may IsText some old new
+      → WritesPart (2 ^ 128) selected (kept_v6 families) IsText some old new
+  v6-part Both only is = all-part (2 ^ 128) only is
+  v6-part V4 only is = no-part (2 ^ 128) is
+  v6-part V6 only is = all-part (2 ^ 128) only is
+
+-- What a row of the code writes is what the layout asks for.
+laid-around : (round other : Around) (dash dashed : ℕ) {T : Type 0} (text : ℕ → List ℕ)
+    (rank : T → ℕ) (width many : ℕ) (form formed : Form) (runs : List Interval) (lines : List ℕ)
+    → round ≡ other → dash ≡ dashed → form ≡ formed
+    → IsLaidSet round dash text rank width many form runs lines
+    → IsLaidSet other dashed text rank width many formed runs lines
+laid-around round other dash dashed text rank width many form formed runs lines around dashes forms is =
+    subst (λ each. IsLaidSet other dashed text rank width many each runs lines) forms
+    (subst (λ each. IsLaidSet other each text rank width many form runs lines) dashes
+    (subst (λ each. IsLaidSet each dash text rank width many form runs lines) around is))
+
+module _ (style : Style) (these those : Selection) (first_may last_may : Outcomes)
     (first_only : first_may ⊆ AreRuns (2 ^ 32) these)
-    (last_only : last_may ⊆ AreRuns (2 ^ 128) those) where
-  -- Whether what was selected was written, in some of the families.
-  abbrev Kept : Bool → Families → Option (List ℕ) → Option (List ℕ) → Type 0
-  Kept some which old new = WritesSelected some sign form which these those old new
+    (last_only : last_may ⊆ AreRuns (2 ^ 128) those) (v4_row v6_row : Row) (form : Form)
+    (v4_around : around_of v4_row
+    ≡ around style.layout (codes "v4") style.prefix.now style.suffix.now)
+    (v6_around : around_of v6_row
+    ≡ around style.layout (codes "v6") style.prefix.now style.suffix.now)
+    (v4_dash : v4_row.dash ≡ dash_of style.layout) (v6_dash : v6_row.dash ≡ dash_of style.layout)
+    (form_is : form ≡ form_in style.layout style.form) where
+  -- Whether a text is that of some IPv4 addresses.
+  abbrev IsV4 : List Interval → List ℕ → Type 0
+  IsV4 runs text = IsLaidSet (around_of v4_row) v4_row.dash v4_text (λ (number : ℕ). number) 32
+      (2 ^ 32) form runs text
 
-  -- Both families were written.
-  pub both-selected : (old mid new : Option (List ℕ)) (has_v4 has_v6 some : Bool)
-      → families ≡ Both → (has_v4 || has_v6) ≡ some
-      → (runs : List Interval) × first_may runs × WritesV4 has_v4 sign form runs old mid
-      → (runs : List Interval) × last_may runs × WritesV6 has_v6 sign form runs mid new
-      → Kept some families old new
-  both-selected old mid new has_v4 has_v6 some is either first last =
-      let v4 = first.2 in
-      let v6 = last.2 in
-      let whole : Kept some Both old new = record {
-        v4_runs = first.0;
-        v6_runs = last.0;
-        v4_made = runs-members (2 ^ 32) these first.0 (first_only first.0 first.1);
-        v6_made = runs-members (2 ^ 128) those last.0 (last_only last.0 last.1);
-        text = v4.0 ++ v6.0;
-        whole = both-lines sign form first.0 last.0 v4.0 v6.0 v4.1 v6.1;
-        written = Appends-then old mid new v4.0 v6.0 v4.2 v6.2;
-        has_line = sym either ∙ either-has has_v4 has_v6 v4.0 v6.0 v4.3 v6.3;
-      } in
-      subst (λ which. Kept some which old new) (sym is) whole
+  -- Whether a text is that of some IPv6 addresses.
+  abbrev IsV6 : List Interval → List ℕ → Type 0
+  IsV6 runs text = IsLaidSet (around_of v6_row) v6_row.dash v6_text (λ (number : ℕ). number) 128
+      (2 ^ 128) form runs text
 
-  -- Only IPv4 was written.
-  pub v4-selected : {E : Type 0} (result : Result Bool E) (old new : Option (List ℕ))
-      → families ≡ V4
-      → IfOk result (λ some. (runs : List Interval) × first_may runs
-      × WritesV4 some sign form runs old new)
-      → IfOk result (λ some. Kept some families old new)
-  v4-selected (Ok some) old new is first =
-      let v4 = first.2 in
-      let others = some-runs (2 ^ 128) those in
-      let whole : Kept some V4 old new = record {
-        v4_runs = first.0;
-        v6_runs = others.0;
-        v4_made = runs-members (2 ^ 32) these first.0 (first_only first.0 first.1);
-        v6_made = agrees (2 ^ 128) those others.0 others.1;
-        text = v4.0;
-        whole = v4-lines sign form first.0 others.0 v4.0 [] v4.1;
-        written = v4.2;
-        has_line = v4.3;
-      } in
-      subst (λ which. Kept some which old new) (sym is) whole
-  v4-selected (Err error) old new is first = tt
-
-  -- Only IPv6 was written.
-  pub v6-selected : {E : Type 0} (result : Result Bool E) (old new : Option (List ℕ))
-      → families ≡ V6
-      → IfOk result (λ some. (runs : List Interval) × last_may runs
-      × WritesV6 some sign form runs old new)
-      → IfOk result (λ some. Kept some families old new)
-  v6-selected (Ok some) old new is last =
-      let v6 = last.2 in
-      let others = some-runs (2 ^ 32) these in
-      let whole : Kept some V6 old new = record {
-        v4_runs = others.0;
-        v6_runs = last.0;
-        v4_made = agrees (2 ^ 32) these others.0 others.1;
-        v6_made = runs-members (2 ^ 128) those last.0 (last_only last.0 last.1);
-        text = v6.0;
-        whole = v6-lines sign form others.0 last.0 [] v6.0 v6.1;
-        written = v6.2;
-        has_line = v6.3;
-      } in
-      subst (λ which. Kept some which old new) (sym is) whole
-  v6-selected (Err error) old new is last = tt
+  -- If all parts were written, so was what was selected.
+  pub all-written : (old one two three four new : Option (List ℕ)) (has_v4 has_v6 some : Bool)
+      (start middle finish : List ℕ) (v4_is v6_is : Bool)
+      → start ≡ head_v4 style.layout style.families → middle ≡ head_v6 style.layout style.families
+      → finish ≡ tail style.layout → v4_is ≡ writes_v4 style.families
+      → v6_is ≡ writes_v6 style.families → (has_v4 || has_v6) ≡ some → Appends old one start
+      → WritesIf v4_is first_may IsV4 has_v4 one two → Appends two three middle
+      → WritesIf v6_is last_may IsV6 has_v6 three four → Appends four new finish
+      → WritesSelected some style these those old new
+  all-written old one two three four new has_v4 has_v6 some start middle finish v4_is v6_is starts
+      middles finishes v4_if v6_if either head first between last end =
+      let v4 = v4-part IsV4 (none-laid (around_of v4_row) v4_row.dash v4_text (λ number. number) 32
+      (2 ^ 32) form) these first_may has_v4 one two style.families first_only
+      (subst (λ test. WritesIf test first_may IsV4 has_v4 one two) v4_if first) in
+      let v6 = v6-part IsV6 (none-laid (around_of v6_row) v6_row.dash v6_text (λ number. number) 128
+      (2 ^ 128) form) those last_may has_v6 three four style.families last_only
+      (subst (λ test. WritesIf test last_may IsV6 has_v6 three four) v6_if last) in
+      record {
+        v4_runs = v4.runs;
+        v6_runs = v6.runs;
+        v4_made = v4.made;
+        v6_made = v6.made;
+        text = start ++ (v4.part ++ (middle ++ (v6.part ++ finish)));
+        whole = record {
+          v4_part = v4.part;
+          v6_part = v6.part;
+          v4_laid = laid-around (around_of v4_row) _ v4_row.dash _ v4_text (λ number. number) 32
+              (2 ^ 32) form _ _ v4.part v4_around v4_dash form_is v4.laid;
+          v6_laid = laid-around (around_of v6_row) _ v6_row.dash _ v6_text (λ number. number) 128
+              (2 ^ 128) form _ _ v6.part v6_around v6_dash form_is v6.laid;
+          whole = λ i. starts i ++ (v4.part ++ (middles i ++ (v6.part ++ finishes i)));
+        };
+        written = Appends-then old one new start (v4.part ++ (middle ++ (v6.part ++ finish))) head
+            (Appends-then one two new v4.part (middle ++ (v6.part ++ finish)) v4.written
+            (Appends-then two three new middle (v6.part ++ finish) between
+            (Appends-then three four new v6.part finish v6.written end)));
+        has_address = sym either ∙ (λ i. v4.has i || v6.has i);
+      }
 
 -- If the operation is the one that was asked for, what was asked for was written.
-pub as-asked : {E : Type 0} (operation which : Operation) (v4 v6 : List Selection) (form : Form)
-    (families : Families) (result : Result Bool E) (old new : Option (List ℕ))
-    → operation ≡ which
-    → IfOk result (λ some. WritesSelected some [] form families (selected_by which v4)
+pub as-asked : {E : Type 0} (operation which : Operation) (v4 v6 : List Selection) (style : Style)
+    (result : Result Bool E) (old new : Option (List ℕ)) → operation ≡ which
+    → IfOk result (λ some. WritesSelected some style (selected_by which v4)
     (selected_by which v6) old new)
-    → IfOk result (λ some. WritesSelected some [] form families (selected_by operation v4)
+    → IfOk result (λ some. WritesSelected some style (selected_by operation v4)
     (selected_by operation v6) old new)
-as-asked operation which v4 v6 form families result old new is written =
-    subst (λ each. IfOk result (λ some. WritesSelected some [] form families (selected_by each v4)
+as-asked operation which v4 v6 style result old new is written =
+    subst (λ each. IfOk result (λ some. WritesSelected some style (selected_by each v4)
     (selected_by each v6) old new)) (sym is) written

@@ -1,11 +1,10 @@
 //! Operations on the lists of files.
 
-ghost use Rattle.std.specs.Prelude.{◌≡◌, ℕ, ◌^◌, [], IfErr, IfOk, IsFalse, List, OnOk, map};
+ghost use Rattle.std.specs.Prelude.{◌≡◌, ℕ, ◌^◌, IfErr, IfOk, IsFalse, List, OnOk, map};
 ghost use Rattle.std.specs.Io.KnownBytes.{Appends};
 ghost use Rattle.range_set_blaze.specs.Runs.{AreRuns, members};
 ghost use Rattle.range_set_blaze.specs.Selection.{Selection};
 ghost use Rattle.rsb_streams.specs.Stream.{◌⊆◌};
-ghost use Rattle.ip_sets.specs.List.{has_bytes};
 ghost use Rattle.ip_sets.specs.Operation.{selected_by};
 ghost use Rattle.ip_commands.specs.Answer.{IsCombined, combined_outcome};
 ghost use Rattle.ip_commands.specs.Files.{
@@ -15,6 +14,7 @@ ghost use Rattle.ip_commands.specs.Files.{
   KeepsUnlessWriting,
   file_names,
 };
+ghost use Rattle.ip_commands.specs.Layout.{writes_some};
 ghost use Rattle.ip_commands.specs.Selection.{WritesSelected};
 
 use crate::commands::Outcome;
@@ -22,7 +22,7 @@ use crate::commands::lists::read_lists;
 use crate::fault::Fault;
 use crate::inputs::Inputs;
 use crate::request::Combination;
-use crate::writing::{Style, write_streams};
+use crate::writing::write_streams;
 use ip_sets::selection::{at_least, common, complement, except, odd, union, v4_ranges, v6_ranges};
 use ip_sets::{AddressList, Operation};
 use range_set_blaze::{Draw, DrawDisjoint};
@@ -39,8 +39,9 @@ pub(crate) fn write_combination<'a, A: Allocator + Copy, I: Inputs, W: Write>(
     told: &mut Vec<u8, A>,
 ) -> Result<Outcome, Fault<'a>>
     ensures answer { IfOk result (λ outcome. (text : List ℕ)
-        × IsCombined (I.bytes inputs.now) combination.entry text
-        × (outcome ≡ combined_outcome combination.entry.fail_empty text)
+        × (made : IsCombined (I.bytes inputs.now) combination.entry text)
+        × (outcome ≡ combined_outcome combination.entry.fail_empty
+        (writes_some combination.entry.style.families made.v4 made.v6))
         × Appends (W.contents output.old) (W.contents output.new) text) }
     ensures told { OnOk result (AddsReports (I.bytes inputs.now)
         combination.entry.sources.skip_bad (file_names combination.entry.sources)
@@ -57,10 +58,9 @@ pub(crate) fn write_combination<'a, A: Allocator + Copy, I: Inputs, W: Write>(
     Ok(outcome(combination.fail_empty, some))
 }
 
-// Returns how an operation ends that writes a text, which may be empty.
+// Returns how an operation ends that writes some address, or none.
 fn outcome(fail_empty: bool, some: bool) -> Outcome
-    ensures { (text : List ℕ) → some ≡ has_bytes text
-        → result ≡ combined_outcome fail_empty text }
+    ensures { result ≡ combined_outcome fail_empty some }
 {
     if fail_empty && !some {
         return Outcome::Empty;
@@ -68,7 +68,7 @@ fn outcome(fail_empty: bool, some: bool) -> Outcome
     Outcome::Done
 }
 
-// Writes what an operation selects from lists. Returns whether there is a line. Nothing was written if
+// Writes what an operation selects from lists. Returns whether there is an address. Nothing was written if
 // allocation fails, since all that is needed is allocated before the first write.
 fn write_operation<'a, A: Allocator + Copy, W: Write>(
     alloc: A,
@@ -76,8 +76,7 @@ fn write_operation<'a, A: Allocator + Copy, W: Write>(
     lists: &[AddressList<A>],
     combination: Combination<'a>,
 ) -> Result<bool, Fault<'a>>
-    ensures answer { IfOk result (λ some. WritesSelected some [] combination.entry.form
-        combination.entry.families
+    ensures answer { IfOk result (λ some. WritesSelected some combination.entry.style
         (selected_by combination.entry.operation (map members (map (λ list. list.v4) lists.now)))
         (selected_by combination.entry.operation (map members (map (λ list. list.v6) lists.now)))
         (W.contents output.old) (W.contents output.new)) }
@@ -111,7 +110,7 @@ fn write_operation<'a, A: Allocator + Copy, W: Write>(
     }
 }
 
-// Writes the addresses of two ready streams, if both were made. Returns whether there is a line.
+// Writes the addresses of two ready streams, if both were made. Returns whether there is an address.
 fn write_made<'a, W: Write, F: DrawDisjoint<u32>, S: DrawDisjoint<u128>>(
     output: &mut W,
     v4: Result<F, AllocError>,
@@ -123,17 +122,12 @@ fn write_made<'a, W: Write, F: DrawDisjoint<u32>, S: DrawDisjoint<u128>>(
     ensures answer { (these those : Selection)
         → IfOk v4 (λ stream. F.may_give stream ⊆ AreRuns (2 ^ 32) these)
         → IfOk v6 (λ stream. S.may_give stream ⊆ AreRuns (2 ^ 128) those)
-        → IfOk result (λ some. WritesSelected some [] combination.entry.form
-        combination.entry.families these those (W.contents output.old) (W.contents output.new)) }
+        → IfOk result (λ some. WritesSelected some combination.entry.style these those
+        (W.contents output.old) (W.contents output.new)) }
     ensures keeps { IfErr result (λ fault.
         KeepsUnlessWriting fault (W.contents output.old) (W.contents output.new)) }
     ensures fault { IfErr result IsAfterReading }
 {
-    let style = Style {
-        sign: b"",
-        form: combination.form,
-        families: combination.families,
-    };
-    let some = write_streams(output, v4?, v6?, style)?;
+    let some = write_streams(output, v4?, v6?, combination.style)?;
     Ok(some)
 }

@@ -4,15 +4,12 @@ ghost use Rattle.std.specs.Prelude.{
   ◌≡◌,
   ◌↔◌,
   ℕ,
-  ◌≤◌,
   IfErr,
   IfOk,
   IsFalse,
   IsTrue,
   List,
   OnOk,
-  codes,
-  length,
 };
 ghost use Rattle.std.specs.Io.KnownBytes.{Appends};
 ghost use Rattle.range_set_blaze.specs.Runs.{members};
@@ -25,14 +22,15 @@ ghost use Rattle.ip_commands.specs.Files.{
   selected,
 };
 ghost use Rattle.ip_commands.specs.Request.{diff_files};
+ghost use Rattle.ip_commands.specs.Layout.{IsSigned};
 ghost use Rattle.ip_commands.specs.Selection.{WritesSelected};
 
 use crate::commands::Outcome;
 use crate::commands::lists::read_file;
 use crate::fault::Fault;
 use crate::inputs::Inputs;
-use crate::request::{Diff, Families};
-use crate::writing::{Style, write_streams};
+use crate::request::{Diff, Families, Layout, Style};
+use crate::writing::write_streams;
 use ip_sets::{Address, AddressList, AddressSet};
 use range_set_blaze::{DrawDisjoint, SortedDisjoint};
 use std::alloc::Allocator;
@@ -75,22 +73,25 @@ fn write_both<'a, W: Write, A: Allocator>(
         × IsDiffText diff.entry.form diff.entry.families (selected old.now) (selected new.now) text
         × Appends (W.contents output.old) (W.contents output.new) text) }
 {
-    let taken_out = Style {
-        sign: b"-",
-        form: diff.form,
-        families: diff.families,
-    };
-    write_difference(output, old, new, taken_out)?;
-    let put_in = Style {
-        sign: b"+",
-        form: diff.form,
-        families: diff.families,
-    };
-    write_difference(output, new, old, put_in)?;
+    write_difference(output, old, new, signed("-", diff))?;
+    write_difference(output, new, old, signed("+", diff))?;
     Ok(())
 }
 
-// Writes the addresses that one list has and another lacks. Returns whether there is a line. It does
+// Returns the style of lines that begin with a sign.
+fn signed<'a>(sign: &'static str, diff: Diff<'a>) -> Style<'a>
+    ensures { IsSigned sign.now diff.entry.form diff.entry.families result }
+{
+    Style {
+        form: diff.form,
+        layout: Layout::Lines,
+        families: diff.families,
+        prefix: sign,
+        suffix: "",
+    }
+}
+
+// Writes the addresses that one list has and another lacks. Returns whether there is one. It does
 // not allocate.
 fn write_difference<'a, W: Write, A: Allocator>(
     output: &mut W,
@@ -98,9 +99,7 @@ fn write_difference<'a, W: Write, A: Allocator>(
     other: &AddressList<A>,
     style: Style<'a>,
 ) -> io::Result<bool>
-    requires { length style.sign.now ≤ 1 }
-    ensures { IfOk result (λ some. WritesSelected some style.entry.sign.now style.entry.form
-        style.entry.families
+    ensures { IfOk result (λ some. WritesSelected some style.entry
         (difference (members one.now.v4) (members other.now.v4))
         (difference (members one.now.v6) (members other.now.v6))
         (W.contents output.old) (W.contents output.new)) }

@@ -11,7 +11,7 @@ use std::process::ExitCode;
 type Row = (&'static [&'static str], u8, &'static str);
 
 /// Commands with a fault.
-static ROWS: [Row; 40] = [
+static ROWS: [Row; 47] = [
     (
         &["union", "a", "bad", "none"],
         2,
@@ -164,6 +164,37 @@ static ROWS: [Row; 40] = [
         64,
         "ip_lists: standard input (-) more than once\n",
     ),
+    (
+        &["union", "--format", "xml", "-5", "a"],
+        64,
+        "ip_lists: unknown option: --format=xml\n",
+    ),
+    (
+        &["union", "--format=xml", "a"],
+        64,
+        "ip_lists: unknown option: --format=xml\n",
+    ),
+    (
+        &["union", "--format=", "a"],
+        64,
+        "ip_lists: unknown option: --format=\n",
+    ),
+    (
+        &["union", "a", "--prefix"],
+        64,
+        "ip_lists: missing value after --prefix\n",
+    ),
+    (
+        &["--help", "--suffix"],
+        64,
+        "ip_lists: missing value after --suffix\n",
+    ),
+    (&["--format", "nft", "--"], 64, "ip_lists: missing command\n"),
+    (
+        &["union", "--", "--prefix"],
+        4,
+        "--prefix: entity not found\n",
+    ),
 ];
 
 /// Whether the program ends with this status and this line, and writes nothing else.
@@ -237,7 +268,7 @@ fn each_read_fails_in_turn(rt: HostRuntime) {
 }
 
 /// Command lines, and what each of them writes.
-static WRITTEN: [(&[&str], &[u8]); 6] = [
+static WRITTEN: [(&[&str], &[u8]); 8] = [
     (
         &["union", "a", "b"],
         b"10.0.0.0/29\n2001:db8::/127\n2001:db8::2\n",
@@ -252,6 +283,18 @@ static WRITTEN: [(&[&str], &[u8]); 6] = [
     ),
     (&["has", "10.0.0.6", "a", "b"], b"a\nb\n"),
     (&["diff", "b", "empty", "-4"], b"-10.0.0.6/31\n"),
+    (
+        &["union", "--format", "json", "--prefix", "[", "--suffix", "]", "a", "b"],
+        b"{\"ipv4\": [\n[\"10.0.0.0/29\"]\n],\n\"ipv6\": [\n[\"2001:db8::/127\"],\n\
+          [\"2001:db8::2\"]\n]}\n",
+    ),
+    (
+        &["common", "-4", "--format", "nft", "a", "b"],
+        b"add table inet ip_lists\n\
+          add set inet ip_lists v4 { type ipv4_addr; flags interval; }\n\
+          flush set inet ip_lists v4\n\
+          add element inet ip_lists v4 {\n10.0.0.6,\n}\n",
+    ),
     (
         &["check", "bad"],
         b"bad:2: not an address, block or range: 10.0.0\nbad:3: a length above 32: 10.0.0.0/33\n",

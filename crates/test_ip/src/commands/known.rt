@@ -15,10 +15,11 @@ ghost use Rattle.std.specs.Prelude.{
 };
 ghost use Rattle.ip_commands.specs.Answer.{IsCombined};
 ghost use Rattle.ip_commands.specs.Files.{file_names};
+ghost use Rattle.ip_commands.specs.Layout.{IsPlain};
 ghost use Rattle.ip_commands.specs.ReadBack.{AreKnown, ReadsAsCombined};
 
 use ip_commands::{
-    Combination, Families, Fault, Form, Inputs, Request, Sources, answer_is_unique,
+    Combination, Families, Fault, Form, Inputs, Layout, Request, Sources, Style, answer_is_unique,
     answer_reads_back, run,
 };
 use ip_sets::Operation;
@@ -47,14 +48,16 @@ impl<'a> Inputs for Two<'a> {
     }
 }
 
-/// Returns the text of what an operation selects from files whose bytes are known. That text is the
-/// only one, and read as a list it selects what the operation selects.
+/// Returns the text of what an operation selects from files whose bytes are known, in lines with
+/// nothing around them. That text is the only one, and read as a list it selects what the operation
+/// selects.
 fn selects_exactly<'a, I: Inputs>(
     alloc: Global,
     inputs: &I,
     combination: Combination<'a>,
 ) -> Result<Vec<u8>, Fault<'a>>
     requires known { AreKnown (I.bytes inputs.now) (file_names combination.sources) }
+    requires plain { IsPlain combination.style }
     ensures text { IfOk result (λ output. (text : List ℕ)
         → IsCombined (I.bytes inputs.now) combination.entry text → output.items ≡ text) }
     ensures reads { IfOk result (λ output.
@@ -82,8 +85,13 @@ fn is_difference(alloc: Global, text: &[u8]) -> bool {
     };
     let combination = Combination {
         operation: Operation::Except,
-        form: Form::Ranges,
-        families: Families::Both,
+        style: Style {
+            form: Form::Ranges,
+            layout: Layout::Lines,
+            families: Families::Both,
+            prefix: "",
+            suffix: "",
+        },
         fail_empty: false,
         sources: Sources {
             files: &["a", "b"],

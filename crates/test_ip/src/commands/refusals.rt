@@ -23,12 +23,17 @@ bad:3: a length above 32: 10.0.0.0/33
 ";
 
 /// Commands that allocate, their exit status, and what they tell on standard error.
-static COMMANDS: [(&[&str], u8, &[u8]); 15] = [
+static COMMANDS: [(&[&str], u8, &[u8]); 16] = [
     (&["union", "a", "b"], 0, b""),
     (&["common", "a", "b", "--ranges"], 0, b""),
     (&["except", "a", "b"], 0, b""),
     (&["except", "--fail-empty", "a", "b"], 0, b""),
     (&["odd", "a", "b", "all"], 0, b""),
+    (
+        &["union", "--format", "json", "--prefix", "x", "a", "b"],
+        0,
+        b"",
+    ),
     (&["at-least", "2", "a", "b"], 0, b""),
     (&["complement", "a", "b"], 0, b""),
     (&["count", "a", "b"], 0, b""),

@@ -1,11 +1,12 @@
 use Rattle.std.proofs.Common.{◌∙◌, map, sym}
+use Rattle.ip_commands.specs.CommandLine.{choices_of}
 use Rattle.ip_commands.proofs.lemmas.CommandLine.{misuse-passed}
 use Rattle.ip_commands.proofs.arguments.command_of.Goals as goal
 
 -- Something else is wrong with the operands.
 pub returns-in_err-request : goal.returns-in_err-request
 returns-in_err-request c =
-    misuse-passed c.args.options (map (λ word. word.now) c.args.operands.now) c.from_residual.result _
+    misuse-passed (choices_of c.args.options) (map (λ word. word.now) c.args.operands.now) c.from_residual.result _
     c.from_residual.ensures.1 c.in_err-request.ensures
 
 -- Standard input is named more than once.

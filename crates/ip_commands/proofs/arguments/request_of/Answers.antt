@@ -1,5 +1,6 @@
 use Rattle.std.proofs.Common.{◌∙◌, ℕ, ◌-◌, ◌∷◌, Bor, List, drop, length, map, refl, ap, take}
 use Rattle.std.specs.Prelude.{codes}
+use Rattle.ip_commands.specs.CommandLine.{choices_of}
 use Rattle.ip_commands.proofs.lemmas.CommandLine.{first-rest, no-command, of-command, of-operation}
 use Rattle.ip_commands.proofs.arguments.request_of.Goals as goal
 
@@ -12,7 +13,7 @@ pub returns-in-union : goal.returns-in-union
 returns-in-union c =
     let parts = first-rest (λ word. word.now) c.args.operands.now _ c.in-len1-up.len_at_least
     ∙ ap (λ command. command ∷ map (λ word. word.now) (rest c.args.operands.now)) c.in-union.is in
-    of-operation c.args.options _ (codes "union")
+    of-operation (choices_of c.args.options) _ (codes "union")
     (rest c.args.operands.now) c.combination.result parts refl
     (c.combination.ensures.request _ parts) c.combination.ensures.misuse
 
@@ -21,7 +22,7 @@ pub returns-in-common : goal.returns-in-common
 returns-in-common c =
     let parts = first-rest (λ word. word.now) c.args.operands.now _ c.in-len1-up.len_at_least
     ∙ ap (λ command. command ∷ map (λ word. word.now) (rest c.args.operands.now)) c.in-common.is in
-    of-operation c.args.options _ (codes "common")
+    of-operation (choices_of c.args.options) _ (codes "common")
     (rest c.args.operands.now) c.combination-in-common.result parts refl
     (c.combination-in-common.ensures.request _ parts) c.combination-in-common.ensures.misuse
 
@@ -30,7 +31,7 @@ pub returns-in-odd : goal.returns-in-odd
 returns-in-odd c =
     let parts = first-rest (λ word. word.now) c.args.operands.now _ c.in-len1-up.len_at_least
     ∙ ap (λ command. command ∷ map (λ word. word.now) (rest c.args.operands.now)) c.in-odd.is in
-    of-operation c.args.options _ (codes "odd")
+    of-operation (choices_of c.args.options) _ (codes "odd")
     (rest c.args.operands.now) c.combination-in-odd.result parts refl
     (c.combination-in-odd.ensures.request _ parts)
     c.combination-in-odd.ensures.misuse
@@ -41,7 +42,7 @@ returns-in-complement c =
     let parts = first-rest (λ word. word.now) c.args.operands.now _ c.in-len1-up.len_at_least
     ∙ ap (λ command. command ∷ map (λ word. word.now) (rest c.args.operands.now))
     c.in-complement.is in
-    of-operation c.args.options _ (codes "complement")
+    of-operation (choices_of c.args.options) _ (codes "complement")
     (rest c.args.operands.now) c.combination-in-complement.result parts refl
     (c.combination-in-complement.ensures.request _ parts) c.combination-in-complement.ensures.misuse
 
@@ -50,7 +51,7 @@ pub returns-in-diff : goal.returns-in-diff
 returns-in-diff c =
     let parts = first-rest (λ word. word.now) c.args.operands.now _ c.in-len1-up.len_at_least
     ∙ ap (λ command. command ∷ map (λ word. word.now) (rest c.args.operands.now)) c.in-diff.is in
-    of-command c.args.options _
+    of-command (choices_of c.args.options) _
     (codes "diff" ∷ map (λ word. word.now) (rest c.args.operands.now)) c.diff.result parts
     c.diff.ensures.request c.diff.ensures.misuse
 

@@ -8,6 +8,6 @@ returns-clause-text c = combined_reads_back
 
 -- What was written is all that the writer holds.
 pub returns-clause-whole : goal.returns-clause-whole
-returns-clause-whole c = λ bytes combination outcome text is.
+returns-clause-whole c = λ bytes combination outcome text plain is.
     subst (ReadsAsCombined bytes combination) (sym is.3)
-    (combined_reads_back bytes combination is.0 is.1)
+    (combined_reads_back bytes combination is.0 plain is.1)

@@ -1,6 +1,8 @@
 use Rattle.std.proofs.Common.{◌≡◌, ◌∙◌, ◌∷◌, ◌++◌, drop, drop-cons, map, sym, ap, suc, subst, take}
-use Rattle.std.proofs.lemmas.List.{map-append, take-append-drop}
-use Rattle.ip_commands.specs.CommandLine.{IsWordFault}
+use Rattle.std.proofs.lemmas.List.{map-append, take-append-drop, take_all}
+use Rattle.std.specs.Option.{option_map}
+use Rattle.ip_commands.specs.CommandLine.{AreRead, AreReadTo, IsWordFault}
+use Rattle.ip_commands.proofs.lemmas.CommandLine.{all-read, first-waits, unwaited}
 use Rattle.ip_commands.proofs.lemmas.Files.{passed-on}
 use Rattle.ip_commands.proofs.arguments.Arguments.new.Goals as goal
 
@@ -21,3 +23,23 @@ returns-in_err-add-clause-fault g c =
     passed-on c.from_residual.result _ (IsWordFault (map text words)) c.from_residual.ensures.1
     (subst (λ each. IsWordFault each c.in_err-add.field-0.0) (sym parts)
     (c.in_err-add.ensures.fault before after c.loop-word.invariant))
+
+-- The last word needs a value.
+pub returns-in-Some-clause-fault : goal.returns-in-Some-clause-fault
+returns-in-Some-clause-fault g c =
+    let text = g.S.AsStr.text in
+    let words = c.args.words.now in
+    let read = subst (λ each. AreRead (map text each) c.loop-word.arguments)
+    (take_all c.loop-word.word-index words c.loop-word-test.false) c.loop-word.invariant in
+    let are = subst (λ waits. AreReadTo (option_map (λ option. option.now) waits) (map text words)
+    c.loop-word.arguments) c.in-Some.is read in
+    (first-waits (map text words) c.loop-word.arguments c.in-Some.option.now are, are.needs)
+
+-- All words were read.
+pub returns-clause-arguments : goal.returns-clause-arguments
+returns-clause-arguments g c =
+    let text = g.S.AsStr.text in
+    let words = c.args.words.now in
+    let read = subst (λ each. AreRead (map text each) c.loop-word.arguments)
+    (take_all c.loop-word.word-index words c.loop-word-test.false) c.loop-word.invariant in
+    all-read (map text words) c.loop-word.arguments (unwaited _ _ _ c.in_default.is read)

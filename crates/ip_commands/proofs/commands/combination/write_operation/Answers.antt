@@ -10,7 +10,7 @@ returns-in-Union-clause-answer g c =
     let v4 = map (λ list. list.v4) c.args.lists.now in
     let v6 = map (λ list. list.v6) c.args.lists.now in
     as-asked c.args.combination.operation Union (map members v4) (map members v6)
-    c.args.combination.form c.args.combination.families c.write_made.result _ _ c.in-Union.is
+    c.args.combination.style c.write_made.result _ _ c.in-Union.is
     (c.write_made.ensures.answer _ _ (c.union.ensures.selects v4 c.in_ok-v4.ensures.given)
     (c.union-in-Union.ensures.selects v6 c.in_ok-v6.ensures.given))
 
@@ -19,7 +19,7 @@ returns-in-Common-clause-answer g c =
     let v4 = map (λ list. list.v4) c.args.lists.now in
     let v6 = map (λ list. list.v6) c.args.lists.now in
     as-asked c.args.combination.operation Common (map members v4) (map members v6)
-    c.args.combination.form c.args.combination.families c.write_made-in-Common.result _ _ c.in-Common.is
+    c.args.combination.style c.write_made-in-Common.result _ _ c.in-Common.is
     (c.write_made-in-Common.ensures.answer _ _ (c.common.ensures.selects v4 c.in_ok-v4.ensures.given)
     (c.common-in-Common.ensures.selects v6 c.in_ok-v6.ensures.given))
 
@@ -28,7 +28,7 @@ returns-in-Except-clause-answer g c =
     let v4 = map (λ list. list.v4) c.args.lists.now in
     let v6 = map (λ list. list.v6) c.args.lists.now in
     as-asked c.args.combination.operation Except (map members v4) (map members v6)
-    c.args.combination.form c.args.combination.families c.write_made-in-Except.result _ _ c.in-Except.is
+    c.args.combination.style c.write_made-in-Except.result _ _ c.in-Except.is
     (c.write_made-in-Except.ensures.answer _ _ (c.except.ensures.selects v4 c.in_ok-v4.ensures.given)
     (c.except-in-Except.ensures.selects v6 c.in_ok-v6.ensures.given))
 
@@ -37,7 +37,7 @@ returns-in-Odd-clause-answer g c =
     let v4 = map (λ list. list.v4) c.args.lists.now in
     let v6 = map (λ list. list.v6) c.args.lists.now in
     as-asked c.args.combination.operation Odd (map members v4) (map members v6)
-    c.args.combination.form c.args.combination.families c.write_made-in-Odd.result _ _ c.in-Odd.is
+    c.args.combination.style c.write_made-in-Odd.result _ _ c.in-Odd.is
     (c.write_made-in-Odd.ensures.answer _ _ (c.odd.ensures.selects v4 c.in_ok-v4.ensures.given)
     (c.odd-in-Odd.ensures.selects v6 c.in_ok-v6.ensures.given))
 
@@ -46,7 +46,7 @@ returns-in-AtLeast-clause-answer g c =
     let v4 = map (λ list. list.v4) c.args.lists.now in
     let v6 = map (λ list. list.v6) c.args.lists.now in
     as-asked c.args.combination.operation (AtLeast c.in-AtLeast.k) (map members v4) (map members v6)
-    c.args.combination.form c.args.combination.families c.write_made-in-AtLeast.result _ _ c.in-AtLeast.is
+    c.args.combination.style c.write_made-in-AtLeast.result _ _ c.in-AtLeast.is
     (c.write_made-in-AtLeast.ensures.answer _ _ (c.at_least.ensures.selects v4 c.in_ok-v4.ensures.given)
     (c.at_least-in-AtLeast.ensures.selects v6 c.in_ok-v6.ensures.given))
 
@@ -55,6 +55,6 @@ returns-in-Complement-clause-answer g c =
     let v4 = map (λ list. list.v4) c.args.lists.now in
     let v6 = map (λ list. list.v6) c.args.lists.now in
     as-asked c.args.combination.operation Complement (map members v4) (map members v6)
-    c.args.combination.form c.args.combination.families c.write_made-in-Complement.result _ _ c.in-Complement.is
+    c.args.combination.style c.write_made-in-Complement.result _ _ c.in-Complement.is
     (c.write_made-in-Complement.ensures.answer _ _ (c.complement.ensures.selects v4 c.in_ok-v4.ensures.given)
     (c.complement-in-Complement.ensures.selects v6 c.in_ok-v6.ensures.given))
