@@ -21,6 +21,7 @@ use Rattle.ip_commands.specs.declared.request.Combination.{Combination}
 use Rattle.ip_commands.specs.declared.request.Families.{Families}
 use Rattle.ip_commands.specs.declared.request.Families.TheVariants.{Both, V4, V6}
 use Rattle.ip_commands.specs.declared.request.Request.TheVariants.{Check, Combine, Count, Diff as Compare, Has, Help, Version}
+use Rattle.ip_sets.specs.declared.line.reading.Reading.{Reading}
 
 -- The IPv4 addresses of each list.
 abbrev pub v4_of : List Selected → List Selection
@@ -132,7 +133,7 @@ module _ (bytes : List ℕ → Option (List ℕ)) where
   -- Whether the text is that of what an operation selects from the lists in files.
   pub record IsCombined (combination : Combination) (text : List ℕ) : Type 0 where
     pub lists : List Selected
-    pub are : AreFilesOf bytes combination.sources.skip_bad (file_names combination.sources) lists
+    pub are : AreFilesOf bytes combination.sources.skip_bad combination.sources.reading (file_names combination.sources) lists
     pub v4 : List Interval
     pub v6 : List Interval
     pub v4_made : Agree (2 ^ 32) (members v4) (selected_by combination.operation (v4_of lists))
@@ -140,10 +141,10 @@ module _ (bytes : List ℕ → Option (List ℕ)) where
     pub whole : IsLaidList combination.style v4 v6 text
 
   -- Whether the text counts the addresses that some list in the files has.
-  pub record IsCounted (families : Families) (skip_bad : Bool) (files : List (List ℕ))
+  pub record IsCounted (families : Families) (skip_bad : Bool) (reading : Reading) (files : List (List ℕ))
       (text : List ℕ) : Type 0 where
     pub lists : List Selected
-    pub are : AreFilesOf bytes skip_bad files lists
+    pub are : AreFilesOf bytes skip_bad reading files lists
     pub v4 : List Interval
     pub v6 : List Interval
     pub v4_made : Agree (2 ^ 32) (members v4) (any_of (v4_of lists))
@@ -152,10 +153,10 @@ module _ (bytes : List ℕ → Option (List ℕ)) where
 
   -- Whether the text names the files whose list has the address, and the outcome says whether there
   -- is one.
-  pub record IsFound (address : IpAddr) (skip_bad : Bool) (files : List (List ℕ))
+  pub record IsFound (address : IpAddr) (skip_bad : Bool) (reading : Reading) (files : List (List ℕ))
       (outcome : Outcome) (text : List ℕ) : Type 0 where
     pub lists : List Selected
-    pub are : AreFilesOf bytes skip_bad files lists
+    pub are : AreFilesOf bytes skip_bad reading files lists
     pub ends : outcome ≡ found_outcome (names_with (has_address address) files lists)
     pub whole : text ≡ names_text (names_with (has_address address) files lists)
 
@@ -164,15 +165,15 @@ module _ (bytes : List ℕ → Option (List ℕ)) where
   pub record IsDiffed (diff : Diff) (outcome : Outcome) (text : List ℕ) : Type 0 where
     pub old : Selected
     pub new : Selected
-    pub old_is : IsFileOf bytes diff.skip_bad diff.old.now old
-    pub new_is : IsFileOf bytes diff.skip_bad diff.new.now new
+    pub old_is : IsFileOf bytes diff.skip_bad diff.reading diff.old.now old
+    pub new_is : IsFileOf bytes diff.skip_bad diff.reading diff.new.now new
     pub differs : IsDiffText diff.form diff.families old new text
     pub ends : IsDiffOutcome outcome (AreSame diff.families old new)
 
   -- Whether the text has a line for each bad line of the files, in order, and the outcome says whether
   -- there is one.
-  abbrev pub IsChecked : List (List ℕ) → Outcome → List ℕ → Type 0
-  IsChecked files outcome text = AreReported bytes files text × (outcome ≡ checked_outcome text)
+  abbrev pub IsChecked : Reading → List (List ℕ) → Outcome → List ℕ → Type 0
+  IsChecked reading files outcome text = AreReported bytes reading files text × (outcome ≡ checked_outcome text)
 
   -- Whether a request was answered by what was written.
   abbrev pub Answers : Request → Outcome → Option (List ℕ) → Option (List ℕ) → Type 0
@@ -182,13 +183,13 @@ module _ (bytes : List ℕ → Option (List ℕ)) where
       × (outcome ≡ combined_outcome it.fail_empty (writes_some it.style.families made.v4 made.v6))
       × Appends old new text
   Answers (Count families sources) outcome old new = (outcome ≡ Done)
-      × ((text : List ℕ) × IsCounted families sources.skip_bad (file_names sources) text
+      × ((text : List ℕ) × IsCounted families sources.skip_bad sources.reading (file_names sources) text
       × Appends old new text)
   Answers (Has address sources) outcome old new =
-      (text : List ℕ) × IsFound address sources.skip_bad (file_names sources) outcome text
+      (text : List ℕ) × IsFound address sources.skip_bad sources.reading (file_names sources) outcome text
       × Appends old new text
   Answers (Compare diff) outcome old new =
       (text : List ℕ) × IsDiffed diff outcome text × Appends old new text
-  Answers (Check files) outcome old new =
-      (text : List ℕ) × IsChecked (map (λ name. name.now) files.now) outcome text
+  Answers (Check files reading) outcome old new =
+      (text : List ℕ) × IsChecked reading (map (λ name. name.now) files.now) outcome text
       × Appends old new text

@@ -27,13 +27,18 @@ use Rattle.ip_commands.specs.declared.request.Layout.TheVariants.{Csv, Ipset, Js
 use Rattle.ip_commands.specs.declared.request.Request.{Request}
 use Rattle.ip_commands.specs.declared.request.Style.{Style}
 use Rattle.ip_commands.specs.declared.request.Request.TheVariants.{Check, Combine, Count, Diff as Compare, Has, Help, Version}
+use Rattle.ip_sets.specs.Form.{form_named as list_form_named}
+use Rattle.ip_sets.specs.declared.line.form.ListForm.{ListForm}
+use Rattle.ip_sets.specs.declared.line.form.ListForm.TheVariants.{Plain}
+use Rattle.ip_sets.specs.declared.line.reading.Reading.{Reading}
 
 -- ---- options with a value. The value is the next word, or follows `=` in the same word.
 
 -- Whether the value of an option is the next word.
 abbrev pub needs_value : List ℕ → Bool
 needs_value word = bytes_eq word (codes "--format")
-    || (bytes_eq word (codes "--prefix") || bytes_eq word (codes "--suffix"))
+    || (bytes_eq word (codes "--prefix") || (bytes_eq word (codes "--suffix")
+    || bytes_eq word (codes "--input")))
 
 -- An option and its value as one word.
 abbrev pub assigned : List ℕ → List ℕ → List ℕ
@@ -136,17 +141,27 @@ prefix_asked word = after_text (codes "--prefix=") word
 abbrev pub suffix_asked : List ℕ → Option (List ℕ)
 suffix_asked word = after_text (codes "--suffix=") word
 
+-- The form of the lists.
+abbrev pub list_form_asked : List ℕ → Option ListForm
+list_form_asked word = option_and_then list_form_named (after_text (codes "--input=") word)
+
+-- That IPv4-mapped addresses are IPv4 addresses.
+abbrev pub asks_map_v4 : List ℕ → Bool
+asks_map_v4 word = bytes_eq word (codes "--map-v4")
+
 -- Whether a word begins as an option with its value does.
 abbrev pub is_assigned : List ℕ → Bool
 is_assigned word = is_some (after_text (codes "--format=") word)
-    || (is_some (prefix_asked word) || is_some (suffix_asked word))
+    || (is_some (prefix_asked word) || (is_some (suffix_asked word)
+    || is_some (after_text (codes "--input=") word)))
 
 -- Whether an option is one that the program has.
 abbrev pub is_known : List ℕ → Bool
 is_known word = is_some (form_asked word) || (is_some (layout_asked word)
     || (is_some (families_asked word) || (is_some (question_asked word)
     || (asks_fail_empty word || (asks_skip_bad word
-    || (is_some (prefix_asked word) || is_some (suffix_asked word)))))))
+    || (is_some (prefix_asked word) || (is_some (suffix_asked word)
+    || (is_some (list_form_asked word) || asks_map_v4 word))))))))
 
 -- ---- what a command line asks for. Of options about the same, the last one counts.
 
@@ -164,6 +179,8 @@ pub record Choices : Type 0 where
   pub skip_bad : Bool
   pub prefix : List ℕ
   pub suffix : List ℕ
+  pub list_form : ListForm
+  pub map_v4 : Bool
 
 -- What options that are known ask for together: lines of blocks, and both families, if none says
 -- otherwise.
@@ -177,6 +194,8 @@ asked_by options = record {
   skip_bad = list_any asks_skip_bad options;
   prefix = unwrap_or (last_or None (filter_map prefix_asked options)) [];
   suffix = unwrap_or (last_or None (filter_map suffix_asked options)) [];
+  list_form = unwrap_or (last_or None (filter_map list_form_asked options)) Plain;
+  map_v4 = list_any asks_map_v4 options;
 }
 
 -- What the options of a command line ask for.
@@ -194,7 +213,13 @@ option_added word choices = record {
   skip_bad = choices.skip_bad || asks_skip_bad word;
   prefix = unwrap_or (prefix_asked word) choices.prefix;
   suffix = unwrap_or (suffix_asked word) choices.suffix;
+  list_form = unwrap_or (list_form_asked word) choices.list_form;
+  map_v4 = choices.map_v4 || asks_map_v4 word;
 }
+
+-- How lists are to be read.
+abbrev pub reading_asked : Choices → Reading
+reading_asked choices = record { form = choices.list_form; map_v4 = choices.map_v4 }
 
 -- What the options of the program ask for.
 abbrev pub choices_of : Options → Choices
@@ -207,6 +232,8 @@ choices_of options = record {
   skip_bad = options.skip_bad;
   prefix = options.prefix.now;
   suffix = options.suffix.now;
+  list_form = options.list_form;
+  map_v4 = options.map_v4;
 }
 
 -- Whether an option is known, and was added to others.
@@ -264,18 +291,21 @@ module _ (choices : Choices) (operands : List (List ℕ)) where
   IsRequestWith (Combine it) = IsStyleOf choices it.style
       × (it.fail_empty ≡ choices.fail_empty) × (it.sources.skip_bad ≡ choices.skip_bad)
       × IsOperation operands it.operation (file_names it.sources)
-      × (1 ≤ length it.sources.files.now)
+      × (1 ≤ length it.sources.files.now) × (it.sources.reading ≡ reading_asked choices)
   IsRequestWith (Count families sources) = (families ≡ choices.families)
       × (sources.skip_bad ≡ choices.skip_bad) × (operands ≡ codes "count" ∷ file_names sources)
-      × (1 ≤ length sources.files.now)
+      × (1 ≤ length sources.files.now) × (sources.reading ≡ reading_asked choices)
   IsRequestWith (Has address sources) = (word : List ℕ)
       × (operands ≡ codes "has" ∷ word ∷ file_names sources) × IsIpText word address
       × (1 ≤ length sources.files.now) × (sources.skip_bad ≡ choices.skip_bad)
+      × (sources.reading ≡ reading_asked choices)
   IsRequestWith (Compare diff) = (diff.form ≡ choices.form) × (diff.families ≡ choices.families)
       × (diff.skip_bad ≡ choices.skip_bad)
       × (operands ≡ codes "diff" ∷ diff.old.now ∷ diff.new.now ∷ [])
-  IsRequestWith (Check files) =
+      × (diff.reading ≡ reading_asked choices)
+  IsRequestWith (Check files reading) =
       (operands ≡ codes "check" ∷ map (λ name. name.now) files.now) × (1 ≤ length files.now)
+      × (reading ≡ reading_asked choices)
 
 -- Whether this is the first thing that is wrong with the operands.
 abbrev pub IsMisuseOfOperands : List (List ℕ) → Misuse → Type 0

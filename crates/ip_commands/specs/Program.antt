@@ -5,7 +5,7 @@ use Rattle.ip_commands.specs.Answer.{Answers}
 use Rattle.ip_commands.specs.CommandLine.{IsMisuse, IsRequest}
 use Rattle.ip_commands.specs.Fault.{outcome_past}
 use Rattle.ip_commands.specs.Files.{AddsReports, KeepsUnlessWriting}
-use Rattle.ip_commands.specs.Request.{IsFirstFaultOf, files_of, skips_bad}
+use Rattle.ip_commands.specs.Request.{IsFirstFaultOf, files_of, reading_of, skips_bad}
 use Rattle.ip_commands.specs.declared.commands.Outcome.{Outcome}
 use Rattle.ip_commands.specs.declared.fault.Fault.{Fault}
 use Rattle.ip_commands.specs.declared.fault.Fault.TheVariants.{BadLine, CommandLine, NoMemory, NotRead, NotWritten}
@@ -15,7 +15,8 @@ use Rattle.ip_commands.specs.declared.request.Request.{Request}
 -- Whether the text has the reports of a request that ended without a fault, if it passes over bad
 -- lines. `bytes` are those of the file with a name, if they are known.
 abbrev pub IsTold : (List ℕ → Option (List ℕ)) → Request → List ℕ → Type 0
-IsTold bytes request told = AddsReports bytes (skips_bad request) (files_of request) [] told
+IsTold bytes request told = 
+    AddsReports bytes (skips_bad request) (reading_of request) (files_of request) [] told
 
 -- `bytes` are those of the file with a name, and `old` and `new` those of the output, if they are
 -- known. `told` are the reports of bad lines that were passed over.

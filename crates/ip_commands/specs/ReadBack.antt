@@ -28,7 +28,7 @@ written_v6 V6 selected number = selected number
 pub record ReadsAsCombined (bytes : List ℕ → Option (List ℕ)) (combination : Combination)
     (text : List ℕ) : Type 0 where
   pub lists : List Selected
-  pub are : AreFilesOf bytes combination.sources.skip_bad (file_names combination.sources) lists
+  pub are : AreFilesOf bytes combination.sources.skip_bad combination.sources.reading (file_names combination.sources) lists
   pub v4 : Selection
   pub v6 : Selection
   pub reads : IsListOf text v4 v6

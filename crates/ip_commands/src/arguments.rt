@@ -41,13 +41,14 @@ ghost use Rattle.ip_commands.specs.CommandLine.{
   is_dashed,
   is_known,
   needs_value,
+  reading_asked,
   repeats_input,
 };
 ghost use Rattle.ip_commands.specs.Request.{files_of};
 
 use crate::fault::{Fault, Misuse};
 use crate::request::{Combination, Diff, Families, Form, Layout, Request, Sources, Style};
-use ip_sets::Operation;
+use ip_sets::{ListForm, Operation, Reading};
 use std::alloc::Allocator;
 use std::convert::AsStr;
 use std::net::IpAddr;
@@ -78,6 +79,10 @@ struct Options<'a> {
     // What is written before and after each block or range.
     prefix: &'a str,
     suffix: &'a str,
+    // The form of the lists.
+    list_form: ListForm,
+    // Whether IPv4-mapped addresses are IPv4 addresses.
+    map_v4: bool,
 }
 
 // What is asked about the program itself.
@@ -110,6 +115,8 @@ impl<'a, A: Allocator> Arguments<'a, A> {
                 skip_bad: false,
                 prefix: "",
                 suffix: "",
+                list_form: ListForm::Plain,
+                map_v4: false,
             },
             waits: None,
             is_ended: false,
@@ -208,7 +215,7 @@ fn needs_value(word: &str) -> bool
     ensures { result ≡ needs_value word.now }
 {
     match word {
-        "--format" | "--prefix" | "--suffix" => true,
+        "--format" | "--prefix" | "--suffix" | "--input" => true,
         _ => false,
     }
 }
@@ -226,6 +233,9 @@ fn with_option<'a>(options: Options<'a>, word: &'a str) -> Option<Options<'a>>
     }
     if let Some(value) = after_text("--suffix=", word) {
         return with_value(options, "--suffix", value);
+    }
+    if let Some(value) = after_text("--input=", word) {
+        return with_value(options, "--input", value);
     }
     with_flag(options, word)
 }
@@ -255,6 +265,7 @@ fn with_flag<'a>(options: Options<'a>, word: &'a str) -> Option<Options<'a>>
         "--version" => options.question = Some(Question::Version),
         "--fail-empty" => options.fail_empty = true,
         "--skip-bad" => options.skip_bad = true,
+        "--map-v4" => options.map_v4 = true,
         _ => return None,
     }
     Some(options)
@@ -270,6 +281,7 @@ fn with_value<'a>(options: Options<'a>, option: &str, value: &'a str) -> Option<
     match option {
         "--prefix" => options.prefix = value,
         "--suffix" => options.suffix = value,
+        "--input" => options.list_form = ListForm::named(value)?,
         _ => return with_format(options, value),
     }
     Some(options)
@@ -292,6 +304,16 @@ fn with_format<'a>(options: Options<'a>, format: &str) -> Option<Options<'a>>
         _ => return None,
     }
     Some(options)
+}
+
+// Returns how lists are to be read.
+fn reading<'a>(options: Options<'a>) -> Reading
+    ensures { result ≡ reading_asked (choices_of options.entry) }
+{
+    Reading {
+        form: options.list_form,
+        map_v4: options.map_v4,
+    }
 }
 
 // Returns what a command and the words after it ask for. Standard input can be read only once.
@@ -318,7 +340,7 @@ fn rereads_input(request: Request<'_>) -> bool
         Request::Count { sources, .. } => repeats_input(sources.files),
         Request::Has { sources, .. } => repeats_input(sources.files),
         Request::Diff(diff) => repeats_input(&[diff.old, diff.new]),
-        Request::Check { files } => repeats_input(files),
+        Request::Check { files, .. } => repeats_input(files),
     }
 }
 
@@ -381,6 +403,7 @@ fn combination<'a>(
         sources: Sources {
             files,
             skip_bad: options.skip_bad,
+            reading: reading(options),
         },
     }))
 }
@@ -432,6 +455,7 @@ fn count<'a>(options: Options<'a>, files: &'a [&'a str]) -> Result<Request<'a>, 
         sources: Sources {
             files,
             skip_bad: options.skip_bad,
+            reading: reading(options),
         },
     })
 }
@@ -455,6 +479,7 @@ fn has<'a>(options: Options<'a>, words: &'a [&'a str]) -> Result<Request<'a>, Mi
             sources: Sources {
                 files,
                 skip_bad: options.skip_bad,
+                reading: reading(options),
             },
         }),
         Err(_) => Err(Misuse::NoAddress(*text)),
@@ -471,7 +496,10 @@ fn check<'a>(options: Options<'a>, files: &'a [&'a str]) -> Result<Request<'a>, 
     if files.is_empty() {
         return Err(Misuse::MissingFile);
     }
-    Ok(Request::Check { files })
+    Ok(Request::Check {
+        files,
+        reading: reading(options),
+    })
 }
 
 // Returns what `diff` and the words after it ask for.
@@ -493,5 +521,6 @@ fn diff<'a>(options: Options<'a>, words: &'a [&'a str]) -> Result<Request<'a>, M
         old: *old,
         new: *new,
         skip_bad: options.skip_bad,
+        reading: reading(options),
     }))
 }

@@ -5,7 +5,7 @@ ghost use Rattle.std.specs.Io.KnownBytes.{Appends};
 ghost use Rattle.ip_commands.specs.Answer.{Answers};
 ghost use Rattle.ip_commands.specs.Fault.{outcome_past, outcome_status};
 ghost use Rattle.ip_commands.specs.Files.{AddsReports, KeepsUnlessWriting};
-ghost use Rattle.ip_commands.specs.Request.{IsFirstFaultOf, files_of, skips_bad};
+ghost use Rattle.ip_commands.specs.Request.{IsFirstFaultOf, files_of, reading_of, skips_bad};
 
 mod check;
 mod combination;
@@ -103,7 +103,7 @@ pub fn run<'a, A: Allocator + Copy, I: Inputs, W: Write>(
     ensures version { request.entry ≡ Request.Version
         → OnOk result (Appends (W.contents output.old) (W.contents output.new) VERSION.now) }
     ensures told { OnOk result (AddsReports (I.bytes inputs.now) (skips_bad request.entry)
-        (files_of request.entry) told.old.items told.new.items) }
+        (reading_of request.entry) (files_of request.entry) told.old.items told.new.items) }
     ensures first { IfErr result (IsFirstFaultOf (I.bytes inputs.now) request.entry) }
     ensures keeps { IfErr result (λ fault.
         KeepsUnlessWriting fault (W.contents output.old) (W.contents output.new)) }
@@ -122,7 +122,9 @@ pub fn run<'a, A: Allocator + Copy, I: Inputs, W: Write>(
             return write_names(alloc, inputs, address, sources, output, told);
         }
         Request::Diff(diff) => return write_diff(alloc, inputs, diff, output, told),
-        Request::Check { files } => return write_reports(alloc, inputs, files, output),
+        Request::Check { files, reading } => {
+            return write_reports(alloc, inputs, files, reading, output);
+        },
     }
     Ok(Outcome::Done)
 }

@@ -5,6 +5,7 @@ ghost use Rattle.std.specs.declared.net.ip_addr.IpAddr.{IpAddr};
 ghost use Rattle.range_set_blaze.specs.Runs.{Interval, members};
 ghost use Rattle.range_set_blaze.specs.Selection.{Agree, difference, union};
 ghost use Rattle.ip_sets.specs.List.{IsListOf};
+ghost use Rattle.ip_sets.specs.declared.line.reading.Reading.{Reading};
 ghost use Rattle.ip_commands.specs.Answer.{Answers, IsCombined, IsCounted, IsDiffText, IsFound};
 ghost use Rattle.ip_commands.specs.Files.{Selected, file_names};
 ghost use Rattle.ip_commands.specs.Layout.{IsPlain};
@@ -63,13 +64,13 @@ pub fn answer_is_unique()
     ensures operation { (bytes : List ℕ → Option (List ℕ)) (combination : Combination)
         (text other : List ℕ) → AreKnown bytes (file_names combination.sources)
         → IsCombined bytes combination text → IsCombined bytes combination other → text ≡ other }
-    ensures counts { (bytes : List ℕ → Option (List ℕ)) (families : Families) (skip_bad : Bool)
+    ensures counts { (bytes : List ℕ → Option (List ℕ)) (families : Families) (skip_bad : Bool) (reading : Reading)
         (files : List (List ℕ)) (text other : List ℕ) → AreKnown bytes files
-        → IsCounted bytes families skip_bad files text
-        → IsCounted bytes families skip_bad files other → text ≡ other }
-    ensures found { (bytes : List ℕ → Option (List ℕ)) (address : IpAddr) (skip_bad : Bool)
+        → IsCounted bytes families skip_bad reading files text
+        → IsCounted bytes families skip_bad reading files other → text ≡ other }
+    ensures found { (bytes : List ℕ → Option (List ℕ)) (address : IpAddr) (skip_bad : Bool) (reading : Reading)
         (files : List (List ℕ)) (outcome ending : Outcome) (text other : List ℕ)
-        → AreKnown bytes files → IsFound bytes address skip_bad files outcome text
-        → IsFound bytes address skip_bad files ending other
+        → AreKnown bytes files → IsFound bytes address skip_bad reading files outcome text
+        → IsFound bytes address skip_bad reading files ending other
         → (outcome ≡ ending) × (text ≡ other) }
 {}

@@ -1,6 +1,6 @@
 //! What a command line asks for.
 
-use ip_sets::Operation;
+use ip_sets::{Operation, Reading};
 use std::net::IpAddr;
 
 /// How addresses are written.
@@ -45,6 +45,8 @@ pub struct Sources<'a> {
     pub files: &'a [&'a str],
     /// Whether bad lines are passed over.
     pub skip_bad: bool,
+    /// How lines are read.
+    pub reading: Reading,
 }
 
 /// How the addresses of an answer are written.
@@ -88,6 +90,8 @@ pub struct Diff<'a> {
     pub new: &'a str,
     /// Whether bad lines are passed over.
     pub skip_bad: bool,
+    /// How lines are read.
+    pub reading: Reading,
 }
 
 /// What a command line asks for.
@@ -114,5 +118,6 @@ pub enum Request<'a> {
     /// Which lines of lists are bad.
     Check {
         files: &'a [&'a str],
+        reading: Reading,
     },
 }

@@ -5,6 +5,7 @@ mod ends;
 mod faults;
 mod formats;
 mod known;
+mod list_forms;
 mod laws;
 mod many_parts;
 mod process;

@@ -28,7 +28,7 @@ same-v6 (list ∷ lists) = ap (λ others. members list.v6 ∷ others) (same-v6 l
 pub combined : {A : Type 0} (bytes : List ℕ → Option (List ℕ)) (combination : Combination)
     (lists given : List (AddressList A)) (old new : Option (List ℕ)) (some : Bool)
     (outcome : Outcome) → given ≡ lists
-    → AreFilesOf bytes combination.sources.skip_bad (file_names combination.sources)
+    → AreFilesOf bytes combination.sources.skip_bad combination.sources.reading (file_names combination.sources)
     (map selected lists)
     → WritesSelected some combination.style
     (selected_by combination.operation (map members (map (λ list. list.v4) given)))

@@ -10,7 +10,7 @@ use Rattle.std.specs.List.{filter, filter_map, find, last_or, list_any}
 use Rattle.std.specs.Option.{IsSomeAnd, option_map, option_or}
 use Rattle.std.specs.Str.Pattern.{FindsTextPrefix, StripsPrefix}
 use Rattle.std.specs.Prelude.{Err, IfErr, IfOk, IsErrAnd, MatchOption, MatchResult, Ok, Result, ◌==◌, bytes_eq, codes, if◌then◌else◌, slice_index_or, unwrap_or}
-use Rattle.ip_commands.specs.CommandLine.{AreArguments, AreRead, AreReadTo, Choices, Have, IsAdded, IsCommand, IsMisuseOfCommand, IsMisuseOfOperands, IsRequestWith, after_mark, after_text, asked_by, choices_of, asks_fail_empty, asks_skip_bad, assigned, before_mark, families_asked, first_unknown, form_asked, goes_on, is_assigned, is_dashed, is_known, is_mark, joined, layout_asked, needs_value, operands_of, option_added, options_of, prefix_asked, question_asked, suffix_asked, whole_words, words_needed}
+use Rattle.ip_commands.specs.CommandLine.{AreArguments, AreRead, AreReadTo, Choices, Have, IsAdded, IsCommand, IsMisuseOfCommand, IsMisuseOfOperands, IsRequestWith, after_mark, after_text, asked_by, choices_of, asks_fail_empty, asks_map_v4, asks_skip_bad, assigned, before_mark, families_asked, first_unknown, form_asked, goes_on, is_assigned, is_dashed, is_known, is_mark, joined, layout_asked, list_form_asked, needs_value, operands_of, option_added, options_of, prefix_asked, question_asked, suffix_asked, whole_words, words_needed}
 use Rattle.ip_commands.specs.declared.arguments.Arguments.{Arguments}
 use Rattle.ip_commands.specs.declared.arguments.Options.{Options}
 use Rattle.ip_commands.specs.declared.fault.Misuse.{Misuse}
@@ -22,6 +22,7 @@ use Rattle.ip_commands.specs.declared.request.Form.TheVariants.{Blocks}
 use Rattle.ip_commands.specs.declared.request.Layout.{Layout}
 use Rattle.ip_commands.specs.declared.request.Layout.TheVariants.{Lines}
 use Rattle.ip_commands.specs.declared.request.Request.{Request}
+use Rattle.ip_sets.specs.declared.line.form.ListForm.TheVariants.{Plain}
 
 -- ---- tests on words
 
@@ -225,8 +226,9 @@ either-default (Some value) old default = refl
 pub choices-equal : (some other : Choices) → some.form ≡ other.form → some.layout ≡ other.layout
     → some.families ≡ other.families → some.question ≡ other.question
     → some.fail_empty ≡ other.fail_empty → some.skip_bad ≡ other.skip_bad
-    → some.prefix ≡ other.prefix → some.suffix ≡ other.suffix → some ≡ other
-choices-equal some other form layout families question fail_empty skip_bad prefix suffix = λ i. record {
+    → some.prefix ≡ other.prefix → some.suffix ≡ other.suffix
+    → some.list_form ≡ other.list_form → some.map_v4 ≡ other.map_v4 → some ≡ other
+choices-equal some other form layout families question fail_empty skip_bad prefix suffix list_form map_v4 = λ i. record {
   form = form i;
   layout = layout i;
   families = families i;
@@ -235,6 +237,8 @@ choices-equal some other form layout families question fail_empty skip_bad prefi
   skip_bad = skip_bad i;
   prefix = prefix i;
   suffix = suffix i;
+  list_form = list_form i;
+  map_v4 = map_v4 i;
 }
 
 -- The last value or else a default, with one more option that may ask for one.
@@ -255,6 +259,7 @@ asked-more options word =
     (default-more families_asked Both options word) (last-more question_asked None options word)
     (one-more asks_fail_empty options word) (one-more asks_skip_bad options word)
     (default-more prefix_asked [] options word) (default-more suffix_asked [] options word)
+    (default-more list_form_asked Plain options word) (one-more asks_map_v4 options word)
 
 -- ---- slices
 
@@ -533,31 +538,34 @@ module _ (words : List (List ℕ)) (word : List ℕ) where
 
 -- A word that needs a value is one of these.
 needs-which : (word : List ℕ) (P : List ℕ → Type 0) → needs_value word ≡ true
-    → P (codes "--format") → P (codes "--prefix") → P (codes "--suffix") → P word
-needs-which word P needs format prefix suffix =
+    → P (codes "--format") → P (codes "--prefix") → P (codes "--suffix") → P (codes "--input")
+    → P word
+needs-which word P needs format prefix suffix input =
     by (bytes_eq word (codes "--format")) (bytes_eq word (codes "--prefix"))
-    (bytes_eq word (codes "--suffix")) refl refl refl needs
+    (bytes_eq word (codes "--suffix")) (bytes_eq word (codes "--input")) refl refl refl refl needs
   where
     is_word : (other : List ℕ) → bytes_eq word other ≡ true → word ≡ other
     is_word other same = (bytes_eq-Decides word other).0 same
 
-    by : (first second third : Bool) → bytes_eq word (codes "--format") ≡ first
+    by : (first second third fourth : Bool) → bytes_eq word (codes "--format") ≡ first
         → bytes_eq word (codes "--prefix") ≡ second → bytes_eq word (codes "--suffix") ≡ third
-        → (first || (second || third)) ≡ true → P word
-    by true second third is also too some = subst P (sym (is_word (codes "--format") is)) format
-    by false true third is also too some = subst P (sym (is_word (codes "--prefix") also)) prefix
-    by false false true is also too some = subst P (sym (is_word (codes "--suffix") too)) suffix
-    by false false false is also too some = absurd (true≢false (sym some))
+        → bytes_eq word (codes "--input") ≡ fourth
+        → (first || (second || (third || fourth))) ≡ true → P word
+    by true second third fourth is also too last some = subst P (sym (is_word (codes "--format") is)) format
+    by false true third fourth is also too last some = subst P (sym (is_word (codes "--prefix") also)) prefix
+    by false false true fourth is also too last some = subst P (sym (is_word (codes "--suffix") too)) suffix
+    by false false false true is also too last some = subst P (sym (is_word (codes "--input") last)) input
+    by false false false false is also too last some = absurd (true≢false (sym some))
 
 -- Such a word is an option, and by itself unknown.
 pub needs-dashed : (word : List ℕ) → needs_value word ≡ true → is_dashed word ≡ true
-needs-dashed word needs = needs-which word (λ each. is_dashed each ≡ true) needs refl refl refl
+needs-dashed word needs = needs-which word (λ each. is_dashed each ≡ true) needs refl refl refl refl
 
 pub needs-unmarked : (word : List ℕ) → needs_value word ≡ true → is_mark word ≡ false
-needs-unmarked word needs = needs-which word (λ each. is_mark each ≡ false) needs refl refl refl
+needs-unmarked word needs = needs-which word (λ each. is_mark each ≡ false) needs refl refl refl refl
 
 pub needs-unknown : (word : List ℕ) → needs_value word ≡ true → is_known word ≡ false
-needs-unknown word needs = needs-which word (λ each. is_known each ≡ false) needs refl refl refl
+needs-unknown word needs = needs-which word (λ each. is_known each ≡ false) needs refl refl refl refl
 
 -- A word with two bytes or more, the first of which is a dash, is an option.
 long-dashed : (second : ℕ) (rest : List ℕ) → is_dashed (45 ∷ second ∷ rest) ≡ true
@@ -569,12 +577,12 @@ pub assigned-dashed : (option value : List ℕ) → needs_value option ≡ true
 assigned-dashed option value needs =
     needs-which option (λ each. is_dashed (assigned each value) ≡ true) needs
     (long-dashed 45 (codes "format=" ++ value)) (long-dashed 45 (codes "prefix=" ++ value))
-    (long-dashed 45 (codes "suffix=" ++ value))
+    (long-dashed 45 (codes "suffix=" ++ value)) (long-dashed 45 (codes "input=" ++ value))
 
 pub assigned-unmarked : (option value : List ℕ) → needs_value option ≡ true
     → is_mark (assigned option value) ≡ false
 assigned-unmarked option value needs =
-    needs-which option (λ each. is_mark (assigned each value) ≡ false) needs refl refl refl
+    needs-which option (λ each. is_mark (assigned each value) ≡ false) needs refl refl refl refl
 
 -- A word that is no option needs no value.
 no-value : (word : List ℕ) → is_dashed word ≡ false → needs_value word ≡ false

@@ -10,7 +10,6 @@ use Rattle.rsb_integer.proofs.lemmas.Canonical.{canonical-same}
 use Rattle.ip_sets.specs.Address.{v4_text, v6_text}
 use Rattle.ip_sets.specs.Blocks.{AreMaximalBlocks}
 use Rattle.ip_sets.specs.Operation.{selected_by}
-use Rattle.ip_sets.specs.Line.{MeansV4, MeansV6}
 use Rattle.ip_sets.specs.List.{AreAddressesOf, list_lines}
 use Rattle.ip_sets.proofs.lemmas.listing.OneSelection.{one_selection}
 use Rattle.ip_commands.specs.Answer.{v4_of, v6_of, AreCounts, IsCombined, IsCountText, IsCounted, IsFound, count_line, found_outcome, has_address, names_text, names_with}
@@ -23,50 +22,52 @@ use Rattle.ip_commands.specs.declared.request.Families.{Families}
 use Rattle.ip_commands.specs.declared.request.Families.TheVariants.{Both, V4, V6}
 use Rattle.ip_commands.specs.Layout.{form_in, head_v4, head_v6, tail}
 use Rattle.ip_commands.proofs.lemmas.SameText.{one-list, same-laid}
+use Rattle.ip_sets.specs.declared.line.reading.Reading.{Reading}
+use Rattle.ip_sets.specs.Reading.{MeansV4By, MeansV6By}
 
 -- ---- known files are lists of one set
 
 -- Selections of the addresses of the same lines are the same.
-same-addresses : (all : List ℕ) (list other : Selected)
-    → AreAddressesOf MeansV4 (list_lines all) list.v4 → AreAddressesOf MeansV6 (list_lines all) list.v6
-    → AreAddressesOf MeansV4 (list_lines all) other.v4 → AreAddressesOf MeansV6 (list_lines all) other.v6
+same-addresses : (reading : Reading) (all : List ℕ) (list other : Selected)
+    → AreAddressesOf (MeansV4By reading) (list_lines all) list.v4 → AreAddressesOf (MeansV6By reading) (list_lines all) list.v6
+    → AreAddressesOf (MeansV4By reading) (list_lines all) other.v4 → AreAddressesOf (MeansV6By reading) (list_lines all) other.v6
     → list ≡ other
-same-addresses all list other v4 v6 other4 other6 =
-    let same4 = one_selection MeansV4 (list_lines all) list.v4 other.v4 v4 other4 in
-    let same6 = one_selection MeansV6 (list_lines all) list.v6 other.v6 v6 other6 in
+same-addresses reading all list other v4 v6 other4 other6 =
+    let same4 = one_selection (MeansV4By reading) (list_lines all) list.v4 other.v4 v4 other4 in
+    let same6 = one_selection (MeansV6By reading) (list_lines all) list.v6 other.v6 v6 other6 in
     λ i. record { v4 = λ number. same4 number i; v6 = λ number. same6 number i }
 
 -- The same bytes select the same addresses.
-same-list : (skip_bad : Bool) (all : List ℕ) (list other : Selected)
-    → SelectsPast skip_bad all list → SelectsPast skip_bad all other → list ≡ other
-same-list false all list other is also =
-    same-addresses all list other is.v4_addresses is.v6_addresses also.v4_addresses
+same-list : (skip_bad : Bool) (reading : Reading) (all : List ℕ) (list other : Selected)
+    → SelectsPast skip_bad reading all list → SelectsPast skip_bad reading all other → list ≡ other
+same-list false reading all list other is also =
+    same-addresses reading all list other is.v4_addresses is.v6_addresses also.v4_addresses
     also.v6_addresses
-same-list true all list other is also =
-    same-addresses all list other is.1.v4_addresses is.1.v6_addresses also.1.v4_addresses
+same-list true reading all list other is also =
+    same-addresses reading all list other is.1.v4_addresses is.1.v6_addresses also.1.v4_addresses
     also.1.v6_addresses
 
 -- If the bytes of a file are known, the file selects at most one set of each family.
-same-known : (skip_bad : Bool) (known : Option (List ℕ)) (list other : Selected) → IsSome known
-    → IfSome known (λ all. SelectsPast skip_bad all list)
-    → IfSome known (λ all. SelectsPast skip_bad all other) → list ≡ other
-same-known skip_bad None list other some is also = absurd (cc some)
-same-known skip_bad (Some all) list other some is also = same-list skip_bad all list other is also
+same-known : (skip_bad : Bool) (reading : Reading) (known : Option (List ℕ)) (list other : Selected) → IsSome known
+    → IfSome known (λ all. SelectsPast skip_bad reading all list)
+    → IfSome known (λ all. SelectsPast skip_bad reading all other) → list ≡ other
+same-known skip_bad reading None list other some is also = absurd (cc some)
+same-known skip_bad reading (Some all) list other some is also = same-list skip_bad reading all list other is also
 
 -- If the bytes of each file are known, the files select at most one list of sets.
-same-files : (bytes : List ℕ → Option (List ℕ)) (skip_bad : Bool) (files : List (List ℕ))
-    (lists others : List Selected) → AreKnown bytes files → AreFilesOf bytes skip_bad files lists
-    → AreFilesOf bytes skip_bad files others → lists ≡ others
-same-files bytes skip_bad [] [] [] known are are_too = refl
-same-files bytes skip_bad [] (list ∷ lists) others known are are_too = absurd are
-same-files bytes skip_bad [] [] (other ∷ others) known are are_too = absurd are_too
-same-files bytes skip_bad (file ∷ files) [] others known are are_too = absurd are
-same-files bytes skip_bad (file ∷ files) (list ∷ lists) [] known are are_too = absurd are_too
-same-files bytes skip_bad (file ∷ files) (list ∷ lists) (other ∷ others) known are are_too =
+same-files : (bytes : List ℕ → Option (List ℕ)) (skip_bad : Bool) (reading : Reading) (files : List (List ℕ))
+    (lists others : List Selected) → AreKnown bytes files → AreFilesOf bytes skip_bad reading files lists
+    → AreFilesOf bytes skip_bad reading files others → lists ≡ others
+same-files bytes skip_bad reading [] [] [] known are are_too = refl
+same-files bytes skip_bad reading [] (list ∷ lists) others known are are_too = absurd are
+same-files bytes skip_bad reading [] [] (other ∷ others) known are are_too = absurd are_too
+same-files bytes skip_bad reading (file ∷ files) [] others known are are_too = absurd are
+same-files bytes skip_bad reading (file ∷ files) (list ∷ lists) [] known are are_too = absurd are_too
+same-files bytes skip_bad reading (file ∷ files) (list ∷ lists) (other ∷ others) known are are_too =
     let Known : List ℕ → Type 0 = λ each. IsSome (bytes each) in
-    let first = same-known skip_bad (bytes file) list other (All-head Known file files known) are.0
+    let first = same-known skip_bad reading (bytes file) list other (All-head Known file files known) are.0
     are_too.0 in
-    let more = same-files bytes skip_bad files lists others (All-tail Known file files known) are.1
+    let more = same-files bytes skip_bad reading files lists others (All-tail Known file files known) are.1
     are_too.1 in
     λ i. first i ∷ more i
 
@@ -105,7 +106,7 @@ one_answer bytes combination text other known is also =
     let style = combination.style in
     let families = style.families in
     let operation = combination.operation in
-    let lists = same-files bytes combination.sources.skip_bad (file_names combination.sources) is.lists
+    let lists = same-files bytes combination.sources.skip_bad combination.sources.reading (file_names combination.sources) is.lists
     also.lists known is.are also.are in
     let agree4 = same-made (2 ^ 32) is.v4 also.v4 (selected_by operation) (v4_of is.lists)
     (v4_of also.lists) (ap v4_of lists) is.v4_made also.v4_made in
@@ -160,12 +161,12 @@ same-counts V6 v4 v6 other4 other6 text other agree4 agree6 is also =
     same-count (codes "IPv6") 128 v6 other6 text other agree6 is also
 
 -- If the bytes of the files are known, their count has at most one text.
-pub one_count : (bytes : List ℕ → Option (List ℕ)) (families : Families) (skip_bad : Bool)
+pub one_count : (bytes : List ℕ → Option (List ℕ)) (families : Families) (skip_bad : Bool) (reading : Reading)
     (files : List (List ℕ)) (text other : List ℕ) → AreKnown bytes files
-    → IsCounted bytes families skip_bad files text
-    → IsCounted bytes families skip_bad files other → text ≡ other
-one_count bytes families skip_bad files text other known is also =
-    let lists = same-files bytes skip_bad files is.lists also.lists known is.are also.are in
+    → IsCounted bytes families skip_bad reading files text
+    → IsCounted bytes families skip_bad reading files other → text ≡ other
+one_count bytes families skip_bad reading files text other known is also =
+    let lists = same-files bytes skip_bad reading files is.lists also.lists known is.are also.are in
     let agree4 = same-made (2 ^ 32) is.v4 also.v4 any_of (v4_of is.lists) (v4_of also.lists)
     (ap v4_of lists) is.v4_made also.v4_made in
     let agree6 = same-made (2 ^ 128) is.v6 also.v6 any_of (v6_of is.lists) (v6_of also.lists)
@@ -175,12 +176,12 @@ one_count bytes families skip_bad files text other known is also =
 -- ---- which lists have an address
 
 -- If the bytes of the files are known, a search in them has one outcome and one text.
-pub one_finding : (bytes : List ℕ → Option (List ℕ)) (address : IpAddr) (skip_bad : Bool)
+pub one_finding : (bytes : List ℕ → Option (List ℕ)) (address : IpAddr) (skip_bad : Bool) (reading : Reading)
     (files : List (List ℕ)) (outcome ending : Outcome) (text other : List ℕ)
-    → AreKnown bytes files → IsFound bytes address skip_bad files outcome text
-    → IsFound bytes address skip_bad files ending other → (outcome ≡ ending) × (text ≡ other)
-one_finding bytes address skip_bad files outcome ending text other known is also =
-    let lists = same-files bytes skip_bad files is.lists also.lists known is.are also.are in
+    → AreKnown bytes files → IsFound bytes address skip_bad reading files outcome text
+    → IsFound bytes address skip_bad reading files ending other → (outcome ≡ ending) × (text ≡ other)
+one_finding bytes address skip_bad reading files outcome ending text other known is also =
+    let lists = same-files bytes skip_bad reading files is.lists also.lists known is.are also.are in
     let names = ap (names_with (has_address address) files) lists in (
       is.ends ∙ ap found_outcome names ∙ sym also.ends,
       is.whole ∙ ap names_text names ∙ sym also.whole,

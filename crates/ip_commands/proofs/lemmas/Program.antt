@@ -8,7 +8,7 @@ use Rattle.ip_commands.specs.Answer.{Answers}
 use Rattle.ip_commands.specs.CommandLine.{IsRequest, IsWordFault}
 use Rattle.ip_commands.specs.Files.{AddsReports, IsGoodFile, KeepsUnlessWriting}
 use Rattle.ip_commands.specs.Program.{Ends, EndsInFault, IsTold}
-use Rattle.ip_commands.specs.Request.{IsFirstFaultOf, files_of, skips_bad}
+use Rattle.ip_commands.specs.Request.{IsFirstFaultOf, files_of, reading_of, skips_bad}
 use Rattle.ip_commands.proofs.lemmas.Appends.{Appends-kept, Keeps-itself}
 use Rattle.ip_commands.proofs.lemmas.Files.{all-good}
 use Rattle.ip_commands.specs.declared.commands.Outcome.{Outcome}
@@ -18,6 +18,7 @@ use Rattle.ip_commands.specs.declared.fault.Fault.TheVariants.{BadLine, CommandL
 use Rattle.ip_commands.specs.declared.fault.Misuse.{Misuse}
 use Rattle.ip_commands.specs.declared.request.Request.{Request}
 use Rattle.ip_commands.specs.declared.request.Request.TheVariants.{Check, Combine, Count, Diff as Compare, Has, Help, Version}
+use Rattle.ip_sets.specs.Reading.{plain}
 
 -- No fault of a request is about the command line.
 no-misuse : (bytes : List ℕ → Option (List ℕ)) (request : Request) (misuse : Misuse)
@@ -28,7 +29,7 @@ no-misuse bytes (Combine it) misuse first = first
 no-misuse bytes (Count families sources) misuse first = first
 no-misuse bytes (Has address sources) misuse first = first
 no-misuse bytes (Compare diff) misuse first = first
-no-misuse bytes (Check files) misuse first = first
+no-misuse bytes (Check files reading) misuse first = first
 
 module _ (bytes : List ℕ → Option (List ℕ)) (words : List (List ℕ)) (told : List ℕ)
     (old new : Option (List ℕ)) where
@@ -50,19 +51,19 @@ module _ (bytes : List ℕ → Option (List ℕ)) (words : List (List ℕ)) (tol
   pub answered-first : (request : Request) (outcome : Outcome) (error : Error)
       → Answers bytes request outcome old new
       → IsFirstFaultOf bytes request (NotWritten error)
-  answered-first Help outcome error answer = All-nil (IsGoodFile bytes false)
-  answered-first Version outcome error answer = All-nil (IsGoodFile bytes false)
+  answered-first Help outcome error answer = All-nil (IsGoodFile bytes false plain)
+  answered-first Version outcome error answer = All-nil (IsGoodFile bytes false plain)
   answered-first (Combine it) outcome error answer =
-      all-good bytes it.sources.skip_bad (files_of (Combine it)) answer.1.lists answer.1.are
+      all-good bytes it.sources.skip_bad it.sources.reading (files_of (Combine it)) answer.1.lists answer.1.are
   answered-first (Count families sources) outcome error answer =
-      all-good bytes sources.skip_bad (files_of (Count families sources)) answer.1.1.lists answer.1.1.are
+      all-good bytes sources.skip_bad sources.reading (files_of (Count families sources)) answer.1.1.lists answer.1.1.are
   answered-first (Has address sources) outcome error answer =
-      all-good bytes sources.skip_bad (files_of (Has address sources)) answer.1.lists answer.1.are
+      all-good bytes sources.skip_bad sources.reading (files_of (Has address sources)) answer.1.lists answer.1.are
   answered-first (Compare diff) outcome error answer =
-      let Good = IsGoodFile bytes diff.skip_bad in
+      let Good = IsGoodFile bytes diff.skip_bad diff.reading in
       All-cons Good diff.old.now (diff.new.now ∷ []) (answer.1.old, answer.1.old_is)
       (All-cons Good diff.new.now [] (answer.1.new, answer.1.new_is) (All-nil Good))
-  answered-first (Check files) outcome error answer = tt
+  answered-first (Check files reading) outcome error answer = tt
 
   -- The fault that `?` returns.
   pub ends-in : (result : Result Outcome Fault) (fault : Fault)
@@ -89,7 +90,7 @@ answers-kept bytes (Has address sources) outcome old mid new answer keeps =
     (answer.0, answer.1, Appends-kept old mid new answer.0 answer.2 keeps)
 answers-kept bytes (Compare diff) outcome old mid new answer keeps =
     (answer.0, answer.1, Appends-kept old mid new answer.0 answer.2 keeps)
-answers-kept bytes (Check files) outcome old mid new answer keeps =
+answers-kept bytes (Check files reading) outcome old mid new answer keeps =
     (answer.0, answer.1, Appends-kept old mid new answer.0 answer.2 keeps)
 
 -- A fault of the words themselves, before anything was written.
@@ -104,7 +105,7 @@ word-fault bytes words told known (CommandLine misuse) is = (is, Keeps-itself kn
 
 -- The reports of a request that were added to no text are the text.
 pub told-first : (bytes : List ℕ → Option (List ℕ)) (request : Request) (old told : List ℕ)
-    → old ≡ [] → AddsReports bytes (skips_bad request) (files_of request) old told
+    → old ≡ [] → AddsReports bytes (skips_bad request) (reading_of request) (files_of request) old told
     → IsTold bytes request told
 told-first bytes request old told none adds =
-    subst (λ each. AddsReports bytes (skips_bad request) (files_of request) each told) none adds
+    subst (λ each. AddsReports bytes (skips_bad request) (reading_of request) (files_of request) each told) none adds

@@ -9,6 +9,7 @@ use crate::commands::Outcome;
 use crate::commands::lists::read_file;
 use crate::fault::Fault;
 use crate::inputs::Inputs;
+use ip_sets::Reading;
 use std::alloc::Allocator;
 use std::io::Write;
 
@@ -17,16 +18,17 @@ pub(crate) fn write_reports<'a, A: Allocator + Copy, I: Inputs, W: Write>(
     alloc: A,
     inputs: &I,
     files: &'a [&'a str],
+    reading: Reading,
     output: &mut W,
 ) -> Result<Outcome, Fault<'a>>
     ensures answer { IfOk result (λ outcome. (text : List ℕ)
-        × IsChecked (I.bytes inputs.now) (map (λ name. name.now) files.now) outcome text
+        × IsChecked (I.bytes inputs.now) reading (map (λ name. name.now) files.now) outcome text
         × Appends (W.contents output.old) (W.contents output.new) text) }
     ensures fault { IfErr result (IsCheckFault (map (λ name. name.now) files.now)) }
     ensures keeps { IfErr result (λ fault.
         KeepsUnlessWriting fault (W.contents output.old) (W.contents output.new)) }
 {
-    let told = reports(alloc, inputs, files)?;
+    let told = reports(alloc, inputs, files, reading)?;
     output.write_all(&told)?;
     Ok(checked(&told))
 }
@@ -46,14 +48,15 @@ fn reports<'a, A: Allocator + Copy, I: Inputs>(
     alloc: A,
     inputs: &I,
     files: &'a [&'a str],
+    reading: Reading,
 ) -> Result<Vec<u8, A>, Fault<'a>>
     ensures reports { IfOk result (λ told.
-        AreReported (I.bytes inputs.now) (map (λ name. name.now) files.now) told.items) }
+        AreReported (I.bytes inputs.now) reading (map (λ name. name.now) files.now) told.items) }
     ensures fault { IfErr result (IsCheckFault (map (λ name. name.now) files.now)) }
 {
     let mut told = Vec::new(alloc);
     for file in files {
-        read_file(alloc, inputs, *file, true, &mut told)?;
+        read_file(alloc, inputs, *file, true, reading, &mut told)?;
     }
     Ok(told)
 }

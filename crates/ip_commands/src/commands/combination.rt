@@ -44,10 +44,10 @@ pub(crate) fn write_combination<'a, A: Allocator + Copy, I: Inputs, W: Write>(
         (writes_some combination.entry.style.families made.v4 made.v6))
         × Appends (W.contents output.old) (W.contents output.new) text) }
     ensures told { OnOk result (AddsReports (I.bytes inputs.now)
-        combination.entry.sources.skip_bad (file_names combination.entry.sources)
+        combination.entry.sources.skip_bad combination.entry.sources.reading (file_names combination.entry.sources)
         told.old.items told.new.items) }
     ensures first { IfErr result (IsFirstFault (I.bytes inputs.now)
-        combination.entry.sources.skip_bad (file_names combination.entry.sources)) }
+        combination.entry.sources.skip_bad combination.entry.sources.reading (file_names combination.entry.sources)) }
     ensures quiet { IsFalse combination.entry.sources.skip_bad
         → told.new.items ≡ told.old.items }
     ensures keeps { IfErr result (λ fault.

@@ -51,12 +51,12 @@ pub(crate) fn write_counts<'a, A: Allocator + Copy, I: Inputs, W: Write>(
     told: &mut Vec<u8, A>,
 ) -> Result<(), Fault<'a>>
     ensures answer { OnOk result ((text : List ℕ)
-        × IsCounted (I.bytes inputs.now) families sources.entry.skip_bad
+        × IsCounted (I.bytes inputs.now) families sources.entry.skip_bad sources.entry.reading
         (file_names sources.entry) text
         × Appends (W.contents output.old) (W.contents output.new) text) }
-    ensures told { OnOk result (AddsReports (I.bytes inputs.now) sources.entry.skip_bad
+    ensures told { OnOk result (AddsReports (I.bytes inputs.now) sources.entry.skip_bad sources.entry.reading
         (file_names sources.entry) told.old.items told.new.items) }
-    ensures first { IfErr result (IsFirstFault (I.bytes inputs.now) sources.entry.skip_bad
+    ensures first { IfErr result (IsFirstFault (I.bytes inputs.now) sources.entry.skip_bad sources.entry.reading
         (file_names sources.entry)) }
     ensures quiet { IsFalse sources.entry.skip_bad → told.new.items ≡ told.old.items }
     ensures keeps { IfErr result (λ fault.

@@ -48,16 +48,16 @@ pub(crate) fn write_diff<'a, A: Allocator + Copy, I: Inputs, W: Write>(
     ensures answer { IfOk result (λ outcome. (text : List ℕ)
         × IsDiffed (I.bytes inputs.now) diff.entry outcome text
         × Appends (W.contents output.old) (W.contents output.new) text) }
-    ensures told { OnOk result (AddsReports (I.bytes inputs.now) diff.entry.skip_bad
+    ensures told { OnOk result (AddsReports (I.bytes inputs.now) diff.entry.skip_bad diff.entry.reading
         (diff_files diff.entry) told.old.items told.new.items) }
-    ensures first { IfErr result (IsFirstFault (I.bytes inputs.now) diff.entry.skip_bad
+    ensures first { IfErr result (IsFirstFault (I.bytes inputs.now) diff.entry.skip_bad diff.entry.reading
         (diff_files diff.entry)) }
     ensures quiet { IsFalse diff.entry.skip_bad → told.new.items ≡ told.old.items }
     ensures keeps { IfErr result (λ fault.
         KeepsUnlessWriting fault (W.contents output.old) (W.contents output.new)) }
 {
-    let old = read_file(alloc, inputs, diff.old, diff.skip_bad, told)?;
-    let new = read_file(alloc, inputs, diff.new, diff.skip_bad, told)?;
+    let old = read_file(alloc, inputs, diff.old, diff.skip_bad, diff.reading, told)?;
+    let new = read_file(alloc, inputs, diff.new, diff.skip_bad, diff.reading, told)?;
     write_both(output, &old, &new, diff)?;
     Ok(outcome(diff.families, &old, &new))
 }

@@ -38,11 +38,11 @@ pub(crate) fn write_names<'a, A: Allocator + Copy, I: Inputs, W: Write>(
     told: &mut Vec<u8, A>,
 ) -> Result<Outcome, Fault<'a>>
     ensures answer { IfOk result (λ outcome. (text : List ℕ) × IsFound (I.bytes inputs.now)
-        address sources.entry.skip_bad (file_names sources.entry) outcome text
+        address sources.entry.skip_bad sources.entry.reading (file_names sources.entry) outcome text
         × Appends (W.contents output.old) (W.contents output.new) text) }
-    ensures told { OnOk result (AddsReports (I.bytes inputs.now) sources.entry.skip_bad
+    ensures told { OnOk result (AddsReports (I.bytes inputs.now) sources.entry.skip_bad sources.entry.reading
         (file_names sources.entry) told.old.items told.new.items) }
-    ensures first { IfErr result (IsFirstFault (I.bytes inputs.now) sources.entry.skip_bad
+    ensures first { IfErr result (IsFirstFault (I.bytes inputs.now) sources.entry.skip_bad sources.entry.reading
         (file_names sources.entry)) }
     ensures quiet { IsFalse sources.entry.skip_bad → told.new.items ≡ told.old.items }
     ensures keeps { IfErr result (λ fault.

@@ -16,10 +16,11 @@ pub returns-in_err-some-clause-first : goal.returns-in_err-some-clause-first
 returns-in_err-some-clause-first g c =
     let bytes = g.I.Inputs.bytes c.args.inputs.now in
     let skip_bad = c.args.combination.sources.skip_bad in
+    let reading = c.args.combination.sources.reading in
     let names = file_names c.args.combination.sources in
     let fault = c.in_err-some.field-0.0 in
-    passed-on c.from_residual-in_err-some.result fault (IsFirstFault bytes skip_bad names)
+    passed-on c.from_residual-in_err-some.result fault (IsFirstFault bytes skip_bad reading names)
     c.from_residual-in_err-some.ensures.1
-    (after-reading bytes skip_bad names fault
-    (all-good bytes skip_bad names (map selected c.in_ok-lists.lists.items) c.in_ok-lists.ensures.lists)
+    (after-reading bytes skip_bad reading names fault
+    (all-good bytes skip_bad reading names (map selected c.in_ok-lists.lists.items) c.in_ok-lists.ensures.lists)
     c.in_err-some.ensures.fault)

@@ -38,8 +38,9 @@ pub returns-in_err-write_list_counts-clause-first
 returns-in_err-write_list_counts-clause-first g c =
     let bytes = g.I.Inputs.bytes c.args.inputs.now in
     let skip_bad = c.args.sources.skip_bad in
+    let reading = c.args.sources.reading in
     let names = file_names c.args.sources in
     passed-on c.from_residual-in_err-write_list_counts.result
-    (NotWritten c.in_err-write_list_counts.field-0.0) (IsFirstFault bytes skip_bad names)
+    (NotWritten c.in_err-write_list_counts.field-0.0) (IsFirstFault bytes skip_bad reading names)
     c.from_residual-in_err-write_list_counts.ensures.1
-    (all-good bytes skip_bad names (map selected c.in_ok-lists.lists.items) c.in_ok-lists.ensures.lists)
+    (all-good bytes skip_bad reading names (map selected c.in_ok-lists.lists.items) c.in_ok-lists.ensures.lists)

@@ -9,7 +9,8 @@ pub returns-in_err-outcome-clause-first : goal.returns-in_err-outcome-clause-fir
 returns-in_err-outcome-clause-first g c =
     let bytes = g.I.Inputs.bytes c.args.inputs.now in
     let skip_bad = c.args.sources.skip_bad in
+    let reading = c.args.sources.reading in
     let names = file_names c.args.sources in
     passed-on c.from_residual-in_err-outcome.result (NotWritten c.in_err-outcome.field-0.0)
-    (IsFirstFault bytes skip_bad names) c.from_residual-in_err-outcome.ensures.1
-    (all-good bytes skip_bad names (map selected c.in_ok-lists.lists.items) c.in_ok-lists.ensures.lists)
+    (IsFirstFault bytes skip_bad reading names) c.from_residual-in_err-outcome.ensures.1
+    (all-good bytes skip_bad reading names (map selected c.in_ok-lists.lists.items) c.in_ok-lists.ensures.lists)
